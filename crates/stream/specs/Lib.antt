@@ -1,0 +1,4 @@
+pub mod Refusal
+pub mod Stream
+pub mod Answers
+pub mod Steps
