@@ -96,3 +96,8 @@ pass-up a d at places e e′ h b is = rw is (blames-deepened (λ o. (o ≡ own d
 -- what came from below is a source
 pub as-source : (a : Call) (at : ℕ) (places : List ℕ) (e : Refusal) → Blames (λ o. Passed a places o) e → Blames (λ o. (o ≡ own a at) ⊎ Passed a places o) e
 as-source a at places e b = blames-map (λ o. Passed a places o) (λ o. (o ≡ own a at) ⊎ Passed a places o) (λ o p. inr p) e b
+
+-- a refusal from below of one call, as one of a call that reaches it
+pub below-as : (a d : Call) (places : List ℕ) (e : Refusal) → Reaches a d → Blames (λ o. Passed d places o) e → Blames (λ o. Passed a places o) e
+below-as a d places e h b =
+    blames-map (λ o. Passed d places o) (λ o. Passed a places o) (λ o p. record { level = p .level; there = p .there; call-is = reaches-then a d (o .call) h (p .call-is); position-is = p .position-is; layers-is = p .layers-is }) e b

@@ -74,6 +74,12 @@ why-map R P R′ P′ s s′ n f g h w = when-map (eqb n 11) (eqb n 12) (unstead
 pub why-deeper : (R P R′ P′ : Type 0) (s s′ : Stream) (e : Refusal) → (s′ .steady ≡ true → s .steady ≡ true) → (R → R′) → (P → P′) → Why s R P (notice e .number) → Why s′ R′ P′ (notice (deepened e) .number)
 why-deeper R P R′ P′ s s′ e f g h w = subst (λ (n : ℕ). Why s′ R′ P′ n) (sym (number-deepened e)) (why-map R P R′ P′ s s′ (notice e .number) f g h w)
 
+-- a refusal by 11 or 12 that cannot be, passed on: it is by 7 to 10
+pub refused-deeper : (R P : Type 0) (s t : Stream) (e e′ : Refusal) → (R → ⊥) → (P → ⊥) → Refused s t R P e → e′ ≡ deepened e → Refused s t ⊥ ⊥ e′
+refused-deeper R P s t e e′ f g r is =
+    let w = why-deeper R P ⊥ ⊥ s s e (λ x. x) f g (r .why) in
+    record { still = r .still; why = subst (λ (x : Refusal). Why s ⊥ ⊥ (notice x .number)) (sym is) w }
+
 -- a steady stream refuses by 11 and 12 alone
 pub steady-refused : (R P : Type 0) (s : Stream) (n : ℕ) → s .steady ≡ true → (R → ⊥) → (P → ⊥) → Why s R P n → ⊥
 steady-refused R P s n u f g w = when-never (eqb n 11) (eqb n 12) (unsteady n) R P (s .steady ≡ true → ⊥) f g (λ r. r u) w
@@ -96,6 +102,15 @@ pub seek-found : (s : Stream) (target : ℤ) (o : Whence) (wo : Option Whence) (
 seek-found s target o wo v is e =
     let a : Ok v ≡ seekAnswer s target (Some o) = ap (λ (x : Option ℕ). okOr x (OutOfRange (own call.Seek (s .position)))) e in
     subst (λ (w : Option Whence). Ok v ≡ seekAnswer s target w) (sym is) a
+
+pub seek-lost : (s : Stream) (target : ℤ) (o : Whence) (wo : Option Whence) → wo ≡ Some o → None ≡ within (s .limit) (target +ℤ pos (origin s o)) → Err (OutOfRange (own call.Seek (s .position))) ≡ seekAnswer s target wo
+seek-lost s target o wo is e =
+    let r = OutOfRange (own call.Seek (s .position)) in
+    let a : Err r ≡ seekAnswer s target (Some o) = ap (λ (x : Option ℕ). okOr x r) e in
+    subst (λ (w : Option Whence). Err r ≡ seekAnswer s target w) (sym is) a
+
+pub some-not-none : (x : Option ℕ) (v : ℕ) → Some v ≡ x → x ≡ None → ⊥
+some-not-none x v e f = let z : _≡_ {A = ℕ} 0 1 = cc in omega arith
 
 pub in-range : (s : Stream) (n : ℕ) → n ≤ s .limit → Outside s (pos n) → ⊥
 in-range s n h out = out (search needs) (search needs)

@@ -3,3 +3,4 @@ pub mod goal;
 pub mod notice;
 pub mod raw;
 pub mod refusal;
+pub mod sizes;
