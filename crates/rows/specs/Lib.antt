@@ -1,0 +1,3 @@
+pub mod BasisPoints
+pub mod Moves
+pub mod Rows
