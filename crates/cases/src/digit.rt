@@ -1,7 +1,7 @@
 // A kind of one byte, for the cases: a decimal digit.
 ghost use mathlib.Core.Path.{_≡_};
 ghost use Rattle.cases.specs.Digit.{digitRead, digitRow};
-use rows::quote::Quote;
+use quotes::quote::Quote;
 
 #[derive(Clone, Copy)]
 pub struct Digit;

@@ -1,4 +1,5 @@
 // What the program is told by its arguments.
+use curves::Settings;
 use std::env;
 use std::error::AnyError;
 use std::rt::Env;
@@ -6,69 +7,87 @@ use std::rt::Env;
 #[derive(Drop)]
 pub struct Options {
     pub help: bool,
-    pub path: String,
-    pub header: i64,
-    pub buffer: i64,
-    pub tenors: Vec<String>,
+    pub settings: Settings,
 }
 
 // What the next argument is.
 #[derive(Clone, Copy)]
 enum Slot {
-    Path,
+    Name,
     Header,
     Buffer,
-    Tenor,
+}
+
+fn number(flag: &str, word: &str) -> Result<i64, AnyError> {
+    match word.parse::<i64>() {
+        Ok(n) => Ok(n),
+        Err(_) => Err(flag.into()),
+    }
 }
 
 impl Options {
-    // Takes the arguments as they stand; they are tested where they are used.
+    // Takes the arguments; their ranges are tested where they are used.
     pub fn read(rt: &LibcRuntime) -> Result<Options, AnyError> {
         let heap = rt.alloc();
-        let mut options = Options {
-            help: false,
+        let settings = Settings {
             path: String::new(heap),
             header: 0,
             buffer: 8192,
             tenors: Vec::new(heap),
         };
-        let mut slot = Slot::Path;
+        let mut options = Options {
+            help: false,
+            settings,
+        };
+        let mut slot = Slot::Name;
         for word in env::args(rt)?.skip(1) {
             slot = options.take(slot, word)?;
         }
-        Ok(options)
+        match slot {
+            Slot::Header => Err("--header wants a whole number".into()),
+            Slot::Buffer => Err("--buffer wants a whole number".into()),
+            Slot::Name => Ok(options),
+        }
     }
 
     // One argument, and what the next one is.
     fn take(&mut self, slot: Slot, word: String) -> Result<Slot, AnyError> {
         match slot {
-            Slot::Header => self.header = word.as_str().parse::<i64>()?,
-            Slot::Buffer => self.buffer = word.as_str().parse::<i64>()?,
-            Slot::Path | Slot::Tenor => match word.as_str() {
-                "--help" => self.help = true,
-                "--header" => return Ok(Slot::Header),
-                "--buffer" => return Ok(Slot::Buffer),
-                _ => return self.name(word),
-            },
+            Slot::Header => self.settings.header = number(
+                "--header wants a whole number",
+                word.as_str(),
+            )?,
+            Slot::Buffer => self.settings.buffer = number(
+                "--buffer wants a whole number",
+                word.as_str(),
+            )?,
+            Slot::Name => return self.name(word),
         }
-        Ok(self.next())
+        Ok(Slot::Name)
     }
 
-    // The file comes first, then the tenors.
+    // A flag, the file, or after it a tenor.
     fn name(&mut self, word: String) -> Result<Slot, AnyError> {
-        if self.path.len() == 0 {
-            self.path = word;
-        } else {
-            self.tenors.push(word)?;
+        match word.as_str() {
+            "--help" => self.help = true,
+            "--header" => return Ok(Slot::Header),
+            "--buffer" => return Ok(Slot::Buffer),
+            text => {
+                if text.starts_with("--") {
+                    return Err("an unknown flag: --help tells those that there are".into());
+                }
+                self.keep(word)?;
+            }
         }
-        Ok(Slot::Tenor)
+        Ok(Slot::Name)
     }
 
-    fn next(&self) -> Slot {
-        if self.path.len() == 0 {
-            Slot::Path
+    fn keep(&mut self, word: String) -> Result<(), AnyError> {
+        if self.settings.path.len() == 0 {
+            self.settings.path = word;
         } else {
-            Slot::Tenor
+            self.settings.tenors.push(word)?;
         }
+        Ok(())
     }
 }

@@ -1,3 +1,2 @@
-pub mod BasisPoints
 pub mod Moves
 pub mod Rows

@@ -1,6 +1,4 @@
-// Quotes of a fixed width in the rows of any stream.
-pub mod basis_points;
+// Rows of quotes in any stream.
 pub mod notice;
-pub mod quote;
 pub mod refusal;
 pub mod rows;

@@ -1,10 +1,8 @@
 // Why a row was not got or put.
 use stream::refusal::Refusal;
-use stream::refusal::RefusalDebug;
-use stream::refusal::RefusalPartialEq;
 
 // `rowNotice` in specs/Rows.antt gives each case its number and its values.
-#[derive(Clone, Copy, PartialEq, Debug)]
+#[derive(Clone, Copy)]
 pub enum RowRefusal {
     // a row not wholly there
     Missing,
@@ -17,7 +15,7 @@ pub enum RowRefusal {
 }
 
 // Why a put was refused, and how many leading bytes of the row are new.
-#[derive(Clone, Copy, PartialEq, Debug)]
+#[derive(Clone, Copy)]
 pub struct PutRefusal {
     pub why: RowRefusal,
     pub fresh: usize,

@@ -7,7 +7,7 @@ ghost use Rattle.stream.specs.Stream.{Sound};
 ghost use Rattle.stream.specs.Refusal.{Source};
 ghost use Rattle.rows.specs.Moves.{Filled, LaidOn};
 ghost use Rattle.rows.specs.Rows.{GotRow, PutRow, PatchRow, GetSaid, PutSaid};
-use crate::quote::Quote;
+use quotes::quote::Quote;
 use crate::refusal::PutRefusal;
 use crate::refusal::RowRefusal;
 use stream::raw::RawStream;

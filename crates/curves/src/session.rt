@@ -2,34 +2,27 @@
 use crate::command::Command;
 use crate::command::command_of;
 use crate::command::row_of;
+use quotes::quote::Quote;
 use rows::notice::RowRefusalDisplay;
-use rows::quote::Quote;
 use rows::refusal::RowRefusal;
 use rows::rows::get;
 use rows::rows::patch;
-use std::error::AnyError;
+use std::io;
 use stream::raw::RawStream;
 
-// A row that was put, and the quote that was there before.
-#[derive(Clone, Copy)]
-pub struct Patched {
-    pub row: u32,
-    pub was: Option<i32>,
-}
-
-// What came of a line: its command was granted or refused.
+// What came of a command.
 #[derive(Clone, Copy)]
 pub enum Outcome {
     Granted,
     Refused,
 }
 
-fn refused(rt: &LibcRuntime, word: &str, why: RowRefusal) -> Result<Outcome, AnyError> {
+fn refused(rt: &LibcRuntime, word: &str, why: RowRefusal) -> io::Result<Outcome> {
     println!(rt, "{word}: refused {why}")?;
     Ok(Outcome::Refused)
 }
 
-fn wrong(rt: &LibcRuntime, word: &str, what: &str) -> Result<Outcome, AnyError> {
+fn wrong(rt: &LibcRuntime, word: &str, what: &str) -> io::Result<Outcome> {
     println!(rt, "{word}: {what}")?;
     Ok(Outcome::Refused)
 }
@@ -40,7 +33,7 @@ fn show<Q: Quote, S: RawStream>(
     s: &mut S,
     name: &str,
     row: u32,
-) -> Result<Outcome, AnyError>
+) -> io::Result<Outcome>
     requires { ⌜ S·RawStream .ready (now s) ⌝ }
     ensures { λ _. ⌜ S·RawStream .ready (now (s .exit)) ⌝ }
 {
@@ -58,7 +51,7 @@ fn list<Q: Quote, S: RawStream>(
     rt: &LibcRuntime,
     s: &mut S,
     tenors: &Vec<String>,
-) -> Result<Outcome, AnyError>
+) -> io::Result<Outcome>
     requires { ⌜ S·RawStream .ready (now s) ⌝ }
     ensures { λ _. ⌜ S·RawStream .ready (now (s .exit)) ⌝ }
 {
@@ -73,41 +66,34 @@ fn list<Q: Quote, S: RawStream>(
     Ok(outcome)
 }
 
-// Puts a quote into a row, flushes, reads it back, and notes what was there.
+// Puts a quote into a row that is there, flushes, and reads it back.
 fn put_one<Q: Quote, S: RawStream>(
     rt: &LibcRuntime,
     s: &mut S,
     name: &str,
     row: u32,
     value: i32,
-    patches: &mut Vec<Patched>,
-) -> Result<Outcome, AnyError>
+) -> io::Result<Outcome>
     requires { ⌜ S·RawStream .ready (now s) ⌝ }
     ensures { λ _. ⌜ S·RawStream .ready (now (s .exit)) ⌝ }
 {
-    let was = match get::<Q, S>(s, row) {
-        Ok(old) => Some(old),
-        Err(RowRefusal::NoQuote) => None,
-        Err(why) => return refused(rt, name, why),
-    };
+    if let Err(RowRefusal::Missing) = get::<Q, S>(s, row) {
+        return refused(rt, name, RowRefusal::Missing);
+    }
     match patch::<Q, S>(s, row, value) {
         Err(e) => refused(rt, name, e.why),
-        Ok(_) => {
-            patches.push(Patched { row, was })?;
-            Ok(Outcome::Granted)
-        }
+        Ok(_) => Ok(Outcome::Granted),
     }
 }
 
-// A value of the command line; one past 32 bits is one that no kind can write.
+// A value as it was typed; one past 32 bits is one that no kind can write.
 fn put_word<Q: Quote, S: RawStream>(
     rt: &LibcRuntime,
     s: &mut S,
     name: &str,
     row: u32,
     value: &str,
-    patches: &mut Vec<Patched>,
-) -> Result<Outcome, AnyError>
+) -> io::Result<Outcome>
     requires { ⌜ S·RawStream .ready (now s) ⌝ }
     ensures { λ _. ⌜ S·RawStream .ready (now (s .exit)) ⌝ }
 {
@@ -115,19 +101,18 @@ fn put_word<Q: Quote, S: RawStream>(
         Err(_) => wrong(rt, value, "not a whole number"),
         Ok(n) => match i32::try_from(n) {
             Err(_) => refused(rt, name, RowRefusal::Unwritable),
-            Ok(v) => put_one::<Q, S>(rt, s, name, row, v, patches),
+            Ok(v) => put_one::<Q, S>(rt, s, name, row, v),
         },
     }
 }
 
 // Runs the command of one line.
-pub fn serve<Q: Quote, S: RawStream>(
+fn serve<Q: Quote, S: RawStream>(
     rt: &LibcRuntime,
     s: &mut S,
     tenors: &Vec<String>,
-    patches: &mut Vec<Patched>,
     line: &str,
-) -> Result<Outcome, AnyError>
+) -> io::Result<Outcome>
     requires { ⌜ S·RawStream .ready (now s) ⌝ }
     ensures { λ _. ⌜ S·RawStream .ready (now (s .exit)) ⌝ }
 {
@@ -141,31 +126,58 @@ pub fn serve<Q: Quote, S: RawStream>(
         },
         Command::Put(name, value) => match row_of(tenors, name) {
             None => wrong(rt, name, "no tenor of this name"),
-            Some(row) => put_word::<Q, S>(rt, s, name, row, value, patches),
+            Some(row) => put_word::<Q, S>(rt, s, name, row, value),
         },
     }
 }
 
-// Prints what was there and what is there now, of each row that was put.
-pub fn report<Q: Quote, S: RawStream>(
+// Runs the command of each line of a text, and tells what came of them all.
+pub fn commands<Q: Quote, S: RawStream>(
     rt: &LibcRuntime,
     s: &mut S,
-    patches: &Vec<Patched>,
-) -> Result<Outcome, AnyError>
+    tenors: &Vec<String>,
+    text: &str,
+) -> io::Result<Outcome>
     requires { ⌜ S·RawStream .ready (now s) ⌝ }
     ensures { λ _. ⌜ S·RawStream .ready (now (s .exit)) ⌝ }
 {
-    println!(rt, "     row      was      now")?;
-    for p in patches.iter() {
-        let row = p.row;
-        let now = match get::<Q, S>(s, row) {
-            Err(why) => return refused(rt, "read back", why),
-            Ok(v) => v,
-        };
-        match p.was {
-            Some(was) => println!(rt, "{row:>8} {was:>8} {now:>8}")?,
-            None => println!(rt, "{row:>8}        - {now:>8}")?,
+    let mut outcome = Outcome::Granted;
+    for line in text.lines() {
+        if let Outcome::Refused = serve::<Q, S>(rt, s, tenors, line)? {
+            outcome = Outcome::Refused;
         }
     }
-    Ok(Outcome::Granted)
+    Ok(outcome)
+}
+
+// Prints a row whose quote differs, under the table's head if it is the first.
+fn change(rt: &LibcRuntime, first: bool, row: u32, was: i32, now: i32) -> io::Result<()> {
+    if first {
+        println!(rt, "     row      was      now")?;
+    }
+    println!(rt, "{row:>8} {was:>8} {now:>8}")
+}
+
+// Prints each row whose quote differs, what was there and what is there now, and answers how many there are.
+pub fn changes<Q: Quote, S: RawStream, T: RawStream>(
+    rt: &LibcRuntime,
+    old: &mut S,
+    new: &mut T,
+) -> io::Result<u32>
+    requires { ⌜ S·RawStream .ready (now old) × T·RawStream .ready (now new) ⌝ }
+{
+    let mut count = 0u32;
+    for row in 0..u32::MAX {
+        let Ok(was) = get::<Q, S>(old, row) else {
+            break;
+        };
+        let Ok(now) = get::<Q, T>(new, row) else {
+            break;
+        };
+        if was != now {
+            change(rt, count == 0, row, was, now)?;
+            count = count.saturating_add(1);
+        }
+    }
+    Ok(count)
 }

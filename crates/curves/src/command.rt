@@ -8,19 +8,35 @@ pub enum Command<'a> {
     Unknown,
 }
 
+fn or_empty(word: Option<&str>) -> &str {
+    match word {
+        Some(word) => word,
+        None => "",
+    }
+}
+
 // The command that a line holds: nothing in a blank one or a remark.
 pub fn command_of(line: &str) -> Command<'_> {
     let mut words = line.split_whitespace();
-    let Some(name) = words.next() else {
-        return Command::Nothing;
-    };
-    if name.starts_with('#') {
+    let name = or_empty(words.next());
+    let row = or_empty(words.next());
+    let value = or_empty(words.next());
+    let rest = or_empty(words.next());
+    if name.is_empty() || name.starts_with('#') {
         return Command::Nothing;
     }
-    match (name, words.next(), words.next(), words.next()) {
-        ("list", None, _, _) => Command::List,
-        ("get", Some(row), None, _) => Command::Get(row),
-        ("put", Some(row), Some(value), None) => Command::Put(row, value),
+    if !rest.is_empty() {
+        return Command::Unknown;
+    }
+    named(name, row, value)
+}
+
+// An empty word is one that is not there.
+fn named<'a>(name: &str, row: &'a str, value: &'a str) -> Command<'a> {
+    match name {
+        "list" if row.is_empty() => Command::List,
+        "get" if !row.is_empty() && value.is_empty() => Command::Get(row),
+        "put" if !value.is_empty() => Command::Put(row, value),
         _ => Command::Unknown,
     }
 }

@@ -1,6 +1,6 @@
 // Basis points: two bytes, low byte first, in two's complement.
 ghost use mathlib.Core.Path.{_≡_};
-ghost use Rattle.rows.specs.BasisPoints.{bpsRead, bpsRow};
+ghost use Rattle.quotes.specs.BasisPoints.{bpsRead, bpsRow};
 use crate::quote::Quote;
 
 #[derive(Clone, Copy)]

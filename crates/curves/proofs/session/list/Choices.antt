@@ -1,4 +1,4 @@
-use Rattle.curve.proofs.session.list.Given as given
+use Rattle.curves.proofs.session.list.Given as given
 
 -- the stream stays in order
 abbrev pub Inv-loop-name : given.InvT-loop-name
