@@ -1,6 +1,7 @@
 -- The memory stream's rules, over the bytes of its slice.
 use mathlib.Core.Path.{_≡_, refl, sym, _∙_, ap, subst}
 use mathlib.Core.List.{List, [], _∷_, _++_}
+use mathlib.Core.Bool.{Bool, true, false, cond}
 use mathlib.Core.Logic.{_⊎_, inl, inr}
 use Prim.Native.Nat.{ℕ, _+_, _-_, _≤_, _<_, min, max}
 use native.Mathlib.Omega.{arith}
@@ -8,21 +9,42 @@ use borrow.Author.Needs.{needs}
 use borrow.Rule.Slice.PartMut.{putMid}
 use lib.IntN.{ℤ, pos, _+ℤ_}
 use lib.ListN.{length, getD, take, drop, replicate, length-append, length-take, length-drop, length-replicate}
+use denote.Ref.{now}
+use Rattle.std.proofs.shelf.Ways.{tells}
+use Rattle.std.specs.Options.{okOr}
 use Rattle.std.specs.declared.option.Option.{Option}
 use Rattle.std.specs.declared.option.Option.the-variants.{Some, None}
+use Rattle.std.specs.declared.result.Result.{Result}
 use Rattle.std.specs.declared.result.Result.the-variants.{Ok, Err}
 use Rattle.std.proofs.shelf.Lists.{places, ext-getD, take-all}
+use Rattle.stream.specs.declared.refusal.Call.{Call}
+use Rattle.stream.specs.declared.refusal.Call.the-variants as call
+use Rattle.stream.specs.declared.refusal.Origin.{Origin}
+use Rattle.stream.specs.declared.refusal.Refusal.{Refusal}
+use Rattle.stream.specs.declared.refusal.Refusal.the-variants.{BadWhence, OutOfRange, PastLimit}
 use Rattle.stream.specs.declared.refusal.Whence.{Whence}
-use Rattle.stream.specs.Stream.{Stream, Kept, Read, Wrote, Cut, laid, resized, At, Sound, SeekBy, origin}
+use Rattle.stream.specs.Refusal.{own}
+use Rattle.stream.specs.Stream.{Stream, Pile, Kept, Read, Wrote, Cut, laid, resized, At, Sound, Leaves, Refused, Outside, SeekBy, Tell, Flush, Whole, left, origin}
 use Rattle.stream.proofs.Bytes.{getD-laid, size-laid}
-use Rattle.stream.specs.Answers.{within, seekAnswer}
-use Rattle.stream.proofs.Streams.{at-test, test-at, within-is, seek-found}
-use Rattle.memory.specs.Memory.{file, InRoom, room}
+use Rattle.stream.specs.Answers.{within, allRead, allWritten, seekAnswer}
+use Rattle.stream.proofs.Streams.{kept-refl, still-refl, unmoved-refl, piled-refl, at-test, test-at, within-is, within-out, seek-found, seek-lost}
+use Rattle.memory.specs.declared.MemoryStream.{MemoryStream}
+use Rattle.memory.specs.Memory.{file, ground, InRoom, InMemory, memory, memoryPile, room}
 
 pub sound-file : (bytes : List ℕ) (len place : ℕ) → InRoom bytes len place → Sound (file bytes len place)
 sound-file bytes len place ok =
     let l = length-take len bytes in
     record { capped = omega arith; placed = ok .place-fits; sized = omega arith; showing = λ p b h. at-test _ p b h; storing = λ p b h. at-test _ p b h }
+
+-- what a call leaves that moves nothing
+leaves-same : {X : Type 0} (c : Call) (bytes : List ℕ) (len place : ℕ) (v : X) → InRoom bytes len place → Leaves {X = X} c (file bytes len place) (ground bytes len) (ground bytes len) (Ok v)
+leaves-same c bytes len place v ok = record { sound = sound-file bytes len place ok; piled = piled-refl _ _ refl; source = tt }
+
+pub low-first : (low a b : ℕ) → low ≡ min a b → low ≤ b
+low-first low a b is = omega arith
+
+pub in-bytes : (bytes : List ℕ) (n : ℕ) → n ≤ room bytes → n ≤ length bytes
+in-bytes bytes n h = omega arith
 
 -- ── reading ──
 
@@ -36,7 +58,41 @@ read-file bytes buf out len place n ok is got =
 pub left-file : (bytes : List ℕ) (len place : ℕ) → len ≤ length bytes → length (take len bytes) - place ≡ len - place
 left-file bytes len place h = simp length-take (omega arith)
 
+-- a read that finds nothing
+pub read-none : (bytes buf : List ℕ) (len place n : ℕ) → InRoom bytes len place → n ≡ min (length buf) (len - place) → n ≡ 0 →
+    Leaves {X = ℕ} call.ReadInto (file bytes len place) (ground bytes len) (ground bytes len) (Ok 0) × Read (file bytes len place) (file bytes len place) buf buf 0 × (Ok 0 ≡ allRead (file bytes len place) (length buf))
+read-none bytes buf len place n ok is none =
+    let l = left-file bytes len place (omega arith) in
+    let z : min (length buf) (length (take len bytes) - place) ≡ 0 = omega arith in
+    (leaves-same call.ReadInto bytes len place 0 ok, record { kept = kept-refl (file bytes len place); count-buf = omega arith; count-left = omega arith; some = λ _. z; filled = refl; shown-same = refl; moved = omega arith }, ap Ok (sym z))
+
+-- all that is left is read
+pub whole-read : (p : Pile) (s : Stream) (k : ℕ) (r : Result ℕ Refusal) → r ≡ allRead s k → Whole p s (min k (left s)) r
+whole-read p s k r e = rw e (λ u v. refl)
+
 -- ── writing ──
+
+-- a write past the limit, and one of no bytes
+pub write-past : (bytes : List ℕ) (len place limit n : ℕ) (from : Origin) → InRoom bytes len place → limit ≡ room bytes → limit - place < n → from ≡ own call.Write place →
+    Leaves {X = ℕ} call.Write (file bytes len place) (ground bytes len) (ground bytes len) (Err (PastLimit from)) × Refused (file bytes len place) (file bytes len place) ⊥ (room bytes < place + n) (PastLimit from) × (Err (PastLimit from) ≡ allWritten (file bytes len place) n)
+write-past bytes len place limit n from ok top past says =
+    let far : room bytes < place + n = omega arith in
+    let a : Err (PastLimit (own call.Write place)) ≡ allWritten (file bytes len place) n = grind (arith, tells) in
+    (record { sound = sound-file bytes len place ok; piled = piled-refl _ _ refl; source = inl says }, record { still = still-refl (file bytes len place); why = far }, ap (λ (x : Origin). Err (PastLimit x)) says ∙ a)
+
+pub write-none : (bytes buf : List ℕ) (len place limit : ℕ) → InRoom bytes len place → limit ≡ room bytes → length buf ≤ limit - place → length buf ≡ 0 →
+    Leaves {X = ℕ} call.Write (file bytes len place) (ground bytes len) (ground bytes len) (Ok 0) × Wrote (file bytes len place) (file bytes len place) buf 0 × (Ok 0 ≡ allWritten (file bytes len place) (length buf))
+write-none bytes buf len place limit ok top fits none =
+    let a : Ok 0 ≡ allWritten (file bytes len place) (length buf) = grind (arith, tells) in
+    (leaves-same call.Write bytes len place 0 ok, record { kept = kept-refl (file bytes len place); fits = omega arith; count = omega arith; some = λ _. none; shown-laid = refl; moved = omega arith }, a)
+
+-- all is written
+whole-cond : (p : Pile) (s : Stream) (k : ℕ) (e : Refusal) (b : Bool) → Whole p s k (cond b (Ok k) (Err e))
+whole-cond p s k e true = λ u v. refl
+whole-cond p s k e false = tt
+
+pub whole-write : (p : Pile) (s : Stream) (k : ℕ) (r : Result ℕ Refusal) → r ≡ allWritten s k → Whole p s k r
+whole-write p s k r e = rw e (whole-cond p s k (PastLimit (own call.Write (s .position))) _)
 
 -- the bytes after zeros are laid from one place to another
 abbrev pub cleared : List ℕ → ℕ → ℕ → List ℕ
@@ -97,6 +153,22 @@ after-truncate bytes after len place low n place′ goal ok is fits e₁ e₂ e�
     let c : Cut (file bytes len place) (file (cleared bytes (min len n) n) n place) goal n = record { kept = record { limit-same = omega arith; steady-on = λ u. u; held-from = λ p q h. inr (test-at _ p q h) }; goal-is = is; fits = fits; shown-cut = cut-in-file bytes len n (omega arith) (omega arith); position-same = refl } in
     rw (e₃, e₂, e₁) (k, sound-file _ _ _ k, c)
 
+-- a size out of range
+pub truncate-out : (bytes : List ℕ) (len place : ℕ) (goal : ℤ) (from : Origin) → InRoom bytes len place → from ≡ own call.Truncate place → None ≡ within (room bytes) goal →
+    Leaves {X = ℕ} call.Truncate (file bytes len place) (ground bytes len) (ground bytes len) (Err (OutOfRange from)) × Refused (file bytes len place) (file bytes len place) (Outside (file bytes len place) goal) ⊥ (OutOfRange from) × (Err (OutOfRange from) ≡ okOr (within (room bytes) goal) (OutOfRange (own call.Truncate place)))
+truncate-out bytes len place goal from ok says e =
+    (record { sound = sound-file bytes len place ok; piled = piled-refl _ _ refl; source = inl says }, record { still = still-refl (file bytes len place); why = within-out (room bytes) goal e }, ap (λ (x : Origin). Err (OutOfRange x)) says ∙ ap (λ (x : Option ℕ). okOr x (OutOfRange (own call.Truncate place))) e)
+
+-- ── telling and flushing ──
+
+pub tell-file : (m n : MemoryStream) (r : Result ℕ Refusal) → InMemory m → n ≡ m → r ≡ Ok (m .pos) →
+    InMemory n × Leaves call.Tell (memory n) (memoryPile m) (memoryPile n) r × Tell (memory m) (memory n) r
+tell-file m n r ok same answer = rw (same, answer) (ok, leaves-same call.Tell (now (m .bytes)) (m .len) (m .pos) (m .pos) ok, (refl, unmoved-refl (memory m)))
+
+pub flush-file : (m n : MemoryStream) (r : Result (Unit {0}) Refusal) → InMemory m → n ≡ m → r ≡ Ok tt →
+    InMemory n × Leaves call.Flush (memory n) (memoryPile m) (memoryPile n) r × Flush (memory m) (memory n) r
+flush-file m n r ok same answer = rw (same, answer) (ok, leaves-same call.Flush (now (m .bytes)) (m .len) (m .pos) tt ok, record { still = still-refl (memory m); stored-shown = refl; held-shown = λ p b h. test-at (take (m .len) (now (m .bytes))) p b h })
+
 -- ── seeking ──
 
 pub seek-file : (bytes : List ℕ) (len place v : ℕ) (target : ℤ) (o : Whence) (wo : Option Whence) → wo ≡ Some o → Some v ≡ within (room bytes) (target +ℤ pos (origin (file bytes len place) o)) →
@@ -105,3 +177,25 @@ seek-file bytes len place v target o wo is e =
     let g = within-is (room bytes) (target +ℤ pos (origin (file bytes len place) o)) v e in
     let s : SeekBy (file bytes len place) (file bytes len v) target (Some o) (Ok v) = record { kept = record { limit-same = refl; steady-on = λ u. u; held-from = λ p b h. inl h }; goal-is = g .0; fits = g .1; shown-same = refl; moved = refl } in
     (g .1, subst (λ (w : Option Whence). SeekBy (file bytes len place) (file bytes len v) target w (Ok v)) (sym is) s, seek-found (file bytes len place) target o wo v is e)
+
+-- a seek to a place out of range
+pub seek-out-file : (bytes : List ℕ) (len place : ℕ) (target : ℤ) (o : Whence) (wo : Option Whence) (from : Origin) → InRoom bytes len place → from ≡ own call.Seek place → wo ≡ Some o → None ≡ within (room bytes) (target +ℤ pos (origin (file bytes len place) o)) →
+    Leaves {X = ℕ} call.Seek (file bytes len place) (ground bytes len) (ground bytes len) (Err (OutOfRange from)) × SeekBy (file bytes len place) (file bytes len place) target wo (Err (OutOfRange from)) × (Err (OutOfRange from) ≡ seekAnswer (file bytes len place) target wo)
+seek-out-file bytes len place target o wo from ok says is e =
+    let s = file bytes len place in
+    let q : SeekBy s s target (Some o) (Err (OutOfRange from)) = record { still = still-refl s; why = within-out (room bytes) (target +ℤ pos (origin s o)) e } in (
+      record { sound = sound-file bytes len place ok; piled = piled-refl _ _ refl; source = inl says },
+      subst (λ (w : Option Whence). SeekBy s s target w (Err (OutOfRange from))) (sym is) q,
+      ap (λ (x : Origin). Err (OutOfRange x)) says ∙ seek-lost s target o wo is e,
+    )
+
+-- a seek by no whence
+pub seek-bad-file : (bytes : List ℕ) (len place : ℕ) (target : ℤ) (wo : Option Whence) → InRoom bytes len place → wo ≡ None →
+    Leaves {X = ℕ} call.Seek (file bytes len place) (ground bytes len) (ground bytes len) (Err BadWhence) × SeekBy (file bytes len place) (file bytes len place) target wo (Err BadWhence) × (Err BadWhence ≡ seekAnswer (file bytes len place) target wo)
+seek-bad-file bytes len place target wo ok is =
+    let s = file bytes len place in
+    let q : SeekBy s s target None (Err BadWhence) = (refl, still-refl s) in (
+      record { sound = sound-file bytes len place ok; piled = piled-refl _ _ refl; source = tt },
+      subst (λ (w : Option Whence). SeekBy s s target w (Err BadWhence)) (sym is) q,
+      subst (λ (w : Option Whence). Err BadWhence ≡ seekAnswer s target w) (sym is) refl,
+    )

@@ -11,9 +11,10 @@ use borrow.Rule.Slice.PartMut.{putMid}
 use lib.Dec.{leb, eqb}
 use lib.IntN.{ℤ, pos, _+ℤ_}
 use lib.ListN.{length, getD, take, drop, length-append, length-take, length-drop}
-use mir.Val.{SFits, toZ, ofZ}
+use mir.Val.{Fits, SFits, toZ, ofZ}
 use mir.Syntax.{w32, w64}
 use Rattle.std.specs.Options.{okOr, isSome, valueOr}
+use Rattle.std.specs.Results.{ErrBy}
 use Rattle.std.specs.declared.option.Option.{Option}
 use Rattle.std.specs.declared.option.Option.the-variants.{Some, None}
 use Rattle.std.specs.declared.result.Result.{Result}
@@ -29,7 +30,7 @@ use Rattle.stream.specs.Stream.{Stream, Pile, Kept, Sound, Refused, Why, Read, 
 use Rattle.stream.specs.Steps.{Put, Got}
 use Rattle.stream.proofs.Bytes.{length-laid, getD-laid-in}
 use Rattle.stream.proofs.Streams.{kept-refl, kept-then, why-map, in-range}
-use Rattle.stream.proofs.Steps.{put-more, length-slice, got-more, left-after}
+use Rattle.stream.proofs.Steps.{put-none, put-more, some-from, length-slice, got-more, left-after}
 use Rattle.rows.specs.declared.refusal.RowRefusal.{RowRefusal}
 use Rattle.rows.specs.declared.refusal.RowRefusal.the-variants.{Missing, NoQuote, Unwritable, Below}
 use Rattle.rows.specs.declared.refusal.PutRefusal.{PutRefusal}
@@ -41,10 +42,54 @@ kept-on : (a b c : Stream) → c .shown ≡ b .shown → Kept a b → Kept b c �
 kept-on a b c same k l =
     record { limit-same = l .limit-same ∙ k .limit-same; steady-on = λ u. l .steady-on (k .steady-on u); held-from = λ p x h. ⊎-elim (λ g. ⊎-elim inl (λ at. inr (subst (λ (xs : List ℕ). At xs p x) (sym same) at)) (k .held-from p x g)) inr (l .held-from p x h) }
 
+-- ── numbers ──
+
+count-bits : (n : ℕ) → n ≤ 2 ^ 62 → Fits w64 n
+count-bits n h = search needs
+
+-- a row's start and end, as numbers of 64 bits
+pub start-signed : (p : ℕ) → p < 2 ^ 36 → SFits w64 (pos p)
+start-signed p small = search (ints, needs)
+
+pub end-bits : (p n width : ℕ) → p < 2 ^ 36 → n ≡ width → width ≤ 16 → Fits w64 (p + n)
+end-bits p n width small size wide = search needs
+
+-- a row that ends past the limit, and one that ends within it
+pub ends-past : (p n width r limit : ℕ) → n ≡ width → r ≡ limit → r < p + n → limit < p + width
+ends-past p n width r limit size is past = omega arith
+
+pub starts-in : (p n r limit : ℕ) → r ≡ limit → p + n ≤ r → p ≤ limit
+starts-in p n r limit is le = omega arith
+
+pub some-bytes : (n m width : ℕ) → 1 ≤ width → n ≡ width → m ≡ n → 0 < m
+some-bytes n m width wide size same = omega arith
+
 -- ── bytes read on ──
 
 got-size : (s t : Stream) (buf out : List ℕ) (n : ℕ) → Got s t buf out n → length out ≡ length buf
 got-size s t buf out n g = let a = g .count-buf in let b = g .count-left in ap length (g .filled) ∙ simp (length-append, length-take, length-drop) (omega arith)
+
+-- the row is as long as before, so what is short of it, or fills it, is so of the row handed in
+pub row-short : (s t : Stream) (buf out : List ℕ) (n : ℕ) → Filled s t buf out (Ok n) → n < length out → n < length buf
+row-short s t buf out n f h = let e = got-size s t buf out n (f .0) in omega arith
+
+pub row-full : (s t : Stream) (buf out : List ℕ) (n : ℕ) → Filled s t buf out (Ok n) → length out ≤ n → length buf ≤ n
+row-full s t buf out n f h = let e = got-size s t buf out n (f .0) in omega arith
+
+-- the row is full
+pub fill-full : (s t : Stream) (buf mid : List ℕ) (n : ℕ) → Got s t buf mid n → length mid ≤ n → Filled s t buf mid (Ok n)
+fill-full s t buf mid n g h = let e = got-size s t buf mid n g in (g, λ short. absurd (omega arith))
+
+-- a read that gives something leaves less of the row to fill, and a count of 64 bits
+pub fill-less : (s t : Stream) (buf mid : List ℕ) (n m : ℕ) → Got s t buf mid n → n < length mid → (m ≡ 0 → ⊥) → length buf - (n + m) < length buf - n
+fill-less s t buf mid n m g h some = let e = got-size s t buf mid n g in ⊎-elim (λ (z : m < 1). absurd (some (omega arith))) (λ (z : 1 ≤ m). omega arith) (cases-lt m 1)
+
+pub fill-bits : (s t u : Stream) (buf mid out : List ℕ) (n m : ℕ) → Sound s → Got s t buf mid n → Read t u (take (length mid - n) (drop n mid)) out m → Fits w64 (n + m)
+fill-bits s t u buf mid out n m sound g r =
+    let l = got-more s t u buf mid out n m sound g r .count-left in
+    let a = sound .sized in
+    let b = sound .capped in
+    count-bits (n + m) (omega arith)
 
 -- a read that gives nothing, though the row has room: all that was left is in it
 pub fill-end : (s t u : Stream) (buf mid out : List ℕ) (n m : ℕ) → Sound s → Got s t buf mid n → Read t u (take (length mid - n) (drop n mid)) out m → m ≡ 0 →
@@ -75,6 +120,25 @@ lay-more s t u row n m sound le p w =
     let x = p .moved in
     let k = p .kept .limit-same in
     (q .1, q .0, omega arith)
+
+-- before the first write
+pub lay-none : (s : Stream) (row : List ℕ) → Put s s (take 0 row) × (0 ≤ length row) × (0 < 0 → s .position + length row ≤ s .limit)
+lay-none s row = (put-none s row, search needs, λ h. absurd (omega arith))
+
+-- a write leaves less of the row to lay, and a count of 64 bits
+pub lay-less : (t u : Stream) (row : List ℕ) (n m : ℕ) → n < length row → Wrote t u (take (length row - n) (drop n row)) m → length row - (n + m) < length row - n
+lay-less t u row n m lt w =
+    let l = length-slice row n (length row) (search needs) in
+    let some = some-from t u (take (length row - n) (drop n row)) m w (omega arith) in
+    omega arith
+
+pub lay-bits : (s t u : Stream) (row : List ℕ) (n m : ℕ) → Sound s → n ≤ length row → Put s t (take n row) → Wrote t u (take (length row - n) (drop n row)) m → Fits w64 (n + m)
+lay-bits s t u row n m sound le p w =
+    let q = lay-more s t u row n m sound le p w in
+    let b = sound .capped in
+    let f = q .2 in
+    let h = q .1 in
+    count-bits (n + m) (omega arith)
 
 pub lay-refused : (s t u : Stream) (row : List ℕ) (n : ℕ) (e : Refusal) → n < length row → (0 < n → s .position + length row ≤ s .limit) → Put s t (take n row) →
     Refused t u ⊥ (t .limit < t .position + length (take (length row - n) (drop n row))) e → LaidOn row s u (Err (record { why = Below e; fresh = n }))
@@ -270,6 +334,19 @@ some-granted (Some row) p s t v put f = f row refl put
 granted-row : {X : Type 0} (writes : ℤ → Option (List ℕ)) (value : ℤ) (p : ℕ) (s t : Stream) (v : Unit {0}) → SFits w32 value → PutRow (writes (passed value)) p s t (Ok v) → ((row : List ℕ) → writes value ≡ Some row → PutWhole row p s t → X) → X
 granted-row writes value p s t v fits put f = some-granted (writes value) p s t v (subst (λ (o : Option (List ℕ)). PutRow o p s t (Ok v)) (writes-passed writes value fits) put) f
 
+unput : (o : Option (List ℕ)) (value : ℤ) (p : ℕ) (s t : Stream) (x : PutRefusal) → PutRow o p s t (Err x) → PatchRow value o p s t (Err x)
+unput None value p s t x (is, same) = let q : x ≡ record { why = Unwritable; fresh = 0 } = cc in (ap Err q, same)
+unput (Some row) value p s t x q = q .0
+
+-- the refusal of the put, passed on
+pub passed-on : (r : Result ℤ PutRefusal) (x : PutRefusal) → ErrBy r (λ y. y ≡ x) → r ≡ Err x
+passed-on (Ok v) x h = absurd h
+passed-on (Err y) x h = ap Err h
+
+pub patch-unput : (writes : ℤ → Option (List ℕ)) (value : ℤ) (p : ℕ) (s t : Stream) (x : PutRefusal) (r : Result ℤ PutRefusal) → SFits w32 value → r ≡ Err x → PutRow (writes (passed value)) p s t (Err x) → PatchRow value (writes value) p s t r
+patch-unput writes value p s t x r fits is put =
+    subst (λ (y : Result ℤ PutRefusal). PatchRow value (writes value) p s t y) (sym is) (unput (writes value) value p s t x (subst (λ (o : Option (List ℕ)). PutRow o p s t (Err x)) (writes-passed writes value fits) put))
+
 pub patch-unflushed : (writes : ℤ → Option (List ℕ)) (value : ℤ) (n p : ℕ) (s t u : Stream) (v : Unit {0}) (e : Refusal) → SFits w32 value → ((row : List ℕ) → writes value ≡ Some row → length row ≡ n) → PutRow (writes (passed value)) p s t (Ok v) → Refused t u ⊥ ⊥ e → PatchRow value (writes value) p s u (Err (record { why = Below e; fresh = n }))
 patch-unflushed writes value n p s t u v e fits size put r =
     granted-row writes value p s t v fits put
@@ -332,6 +409,16 @@ got-said t q Missing h = tt
 got-said t q NoQuote h = tt
 got-said t q Unwritable h = tt
 got-said t q (Below e) h = ⊎-elim inl (λ k. inr (inr (inr k))) h
+
+-- a put's refusal
+unput-said : (t : Stream) (q : Pile) (x : RowRefusal) → RowSaid (call.Seek ∷ (call.Write ∷ [])) t q x → RowSaid (call.Seek ∷ (call.Write ∷ (call.Flush ∷ (call.ReadInto ∷ [])))) t q x
+unput-said t q Missing h = tt
+unput-said t q NoQuote h = tt
+unput-said t q Unwritable h = tt
+unput-said t q (Below e) h = ⊎-elim inl (λ k. ⊎-elim (λ l. inr (inl l)) absurd k) h
+
+pub patch-said : (t : Stream) (q : Pile) (x : PutRefusal) (r : Result ℤ PutRefusal) → r ≡ Err x → RowSaid (call.Seek ∷ (call.Write ∷ [])) t q (x .why) → PutSaid (call.Seek ∷ (call.Write ∷ (call.Flush ∷ (call.ReadInto ∷ [])))) t q r
+patch-said t q x r is h = subst (λ (y : Result ℤ PutRefusal). PutSaid (call.Seek ∷ (call.Write ∷ (call.Flush ∷ (call.ReadInto ∷ [])))) t q y) (sym is) (unput-said t q (x .why) h)
 
 -- ── the row that a call works in ──
 

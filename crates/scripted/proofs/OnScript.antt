@@ -9,10 +9,11 @@ use borrow.Author.Needs.{needs}
 use lib.Dec.{eqb, ltb}
 use lib.IntN.{ℤ, pos, _+ℤ_}
 use lib.ListN.{length, take, drop, length-take}
+use denote.Ref.{now}
 use Rattle.std.proofs.shelf.Lists.{places, ext-getD, take-take, take-append-drop}
 use Rattle.std.proofs.shelf.Tests.{and-parts}
 use Rattle.std.proofs.shelf.Ways.{tells}
-use Rattle.std.specs.Options.{okOr}
+use Rattle.std.specs.Options.{okOr, isSome}
 use Rattle.std.specs.declared.option.Option.{Option}
 use Rattle.std.specs.declared.option.Option.the-variants.{Some, None}
 use Rattle.std.specs.declared.result.Result.{Result}
@@ -23,13 +24,13 @@ use Rattle.stream.specs.declared.refusal.Origin.{Origin}
 use Rattle.stream.specs.declared.refusal.Whence.{Whence}
 use Rattle.stream.specs.declared.refusal.Whence.the-variants.{Start, Current, End}
 use Rattle.stream.specs.declared.refusal.Refusal.{Refusal}
-use Rattle.stream.specs.declared.refusal.Refusal.the-variants.{NotNow, Fault, OutOfRange}
+use Rattle.stream.specs.declared.refusal.Refusal.the-variants.{BadWhence, NotNow, Fault, OutOfRange, PastLimit}
 use Rattle.stream.specs.Refusal.{notice, own, Blames, Passed}
 use Rattle.stream.specs.Stream as st
 use Rattle.stream.specs.Stream.{Stream, Pile, Sound, Leaves, Kept, Still, Refused, Unmoved, Why, Outside, laid}
 use Rattle.stream.specs.Answers.{allRead, allWritten, seekAnswer, within}
 use Rattle.stream.proofs.Refusals.{blames-map}
-use Rattle.stream.proofs.Streams.{still-refl, why-map}
+use Rattle.stream.proofs.Streams.{still-refl, why-map, test-at}
 use Rattle.memory.specs.declared.MemoryStream.{MemoryStream}
 use Rattle.memory.specs.Memory.{memory, memoryPile, InMemory}
 use Rattle.memory.proofs.OnMemory.{sound-file}
@@ -181,3 +182,64 @@ seek-under s t es fs target (Some o) r u used some q = seek-to-under s t es fs _
 pub seek-answer : (s : Stream) (es : List Entry) (target : ℤ) (w : Option Whence) → seekAnswer s target w ≡ seekAnswer (under es s) target w
 seek-answer s es target None = refl
 seek-answer s es target (Some o) = ap (λ (k : ℕ). okOr (within (s .limit) (target +ℤ pos k)) (OutOfRange (own call.Seek (s .position)))) (origin-under s es o)
+
+-- a seek by no whence
+pub not-some : (w : Option Whence) → isSome w ≡ false → w ≡ None
+not-some None e = refl
+not-some (Some o) e = let z : _≡_ {A = ℕ} 0 1 = cc in absurd (omega arith)
+
+pub seek-bad : (m : MemoryStream) (es : List Entry) (target : ℤ) (w : Option Whence) → InMemory m → w ≡ None →
+    Leaves {X = ℕ} call.Seek (under es (memory m)) (cutShort (memoryPile m)) (cutShort (memoryPile m)) (Err BadWhence) × st.SeekBy (under es (memory m)) (under es (memory m)) target w (Err BadWhence)
+seek-bad m es target w ok is =
+    let s = under es (memory m) in
+    let q : st.SeekBy s s target None (Err BadWhence) = (refl, still-refl s) in (
+      record { sound = sound-under (memory m) es (sound-file (now (m .bytes)) (m .len) (m .pos) ok); piled = record { headers-same = refl; whole-same = refl; based = refl }; source = tt },
+      subst (λ (x : Option Whence). st.SeekBy s s target x (Err BadWhence)) (sym is) q,
+    )
+
+-- the position lies within the limit, and so do bytes that are tested for
+pub placed-within : (at place limit top : ℕ) → at ≡ place → limit ≡ top → place ≤ top → at ≤ limit
+placed-within at place limit top here is h = omega arith
+
+pub fits-within : (at place limit top n : ℕ) → at ≡ place → limit ≡ top → place ≤ top → n ≤ limit - at → place + n ≤ top
+fits-within at place limit top n here is h fits = omega arith
+
+pub front-length : (buf : List ℕ) (k most : ℕ) → k ≡ min (length buf) most → k ≡ length (take k buf)
+front-length buf k most is = simp length-take (omega arith)
+
+-- a write that would end past the limit
+past-answer : (s : Stream) (k most : ℕ) → s .limit < s .position + k → Err (PastLimit (own call.Write (s .position))) ≡ atMost (allWritten s k) most
+past-answer s k most h = grind (arith, tells)
+
+pub write-past : (m : MemoryStream) (es fs : List Entry) (at limit k most : ℕ) → InMemory m → at ≡ m .pos → limit ≡ memory m .limit → limit - at < k → fs ≡ drop 1 es → Ok most ≡ verdict es (own call.Write at) →
+    Leaves {X = ℕ} call.Write (under fs (memory m)) (cutShort (memoryPile m)) (cutShort (memoryPile m)) (Err (PastLimit (own call.Write at))) × Refused (under es (memory m)) (under fs (memory m)) ⊥ (memory m .limit < m .pos + k) (PastLimit (own call.Write at)) × (Err (PastLimit (own call.Write at)) ≡ granting (verdict es (own call.Write (m .pos))) (atMost (allWritten (memory m) k)))
+write-past m es fs at limit k most ok here top past used is =
+    let s = memory m in
+    let far : s .limit < s .position + k = omega arith in (
+      record { sound = sound-under s fs (sound-file (now (m .bytes)) (m .len) (m .pos) ok); piled = record { headers-same = refl; whole-same = refl; based = refl }; source = inl (ap (own call.Write) here) },
+      record { still = still-under s s es fs used (still-refl s); why = far },
+      ap (λ (n : ℕ). Err (PastLimit (own call.Write n))) here ∙ past-answer s k most far ∙ granted call.Write es at (m .pos) most (atMost (allWritten s k)) here is,
+    )
+
+pub truncate-under : (s t : Stream) (es fs : List Entry) (goal : ℤ) (r : Result ℕ Refusal) → s .steady ≡ true → fs ≡ drop 1 es → st.Truncate s t goal r → st.Truncate (under es s) (under fs t) goal r
+truncate-under s t es fs goal (Ok n) u used q = record { kept = kept-under s t es fs used (q .kept); goal-is = q .goal-is; fits = q .fits; shown-cut = q .shown-cut; position-same = q .position-same }
+truncate-under s t es fs goal (Err e) u used q = refused-under (Outside s goal) ⊥ ⊥ s t es fs e u (λ x. x) used q
+
+-- what a call leaves that moves nothing
+leaves-still : {X : Type 0} (c : Call) (m : MemoryStream) (fs : List Entry) (v : X) → InMemory m → Leaves {X = X} c (under fs (memory m)) (cutShort (memoryPile m)) (cutShort (memoryPile m)) (Ok v)
+leaves-still c m fs v ok = record { sound = sound-under (memory m) fs (sound-file (now (m .bytes)) (m .len) (m .pos) ok); piled = record { headers-same = refl; whole-same = refl; based = refl }; source = tt }
+
+pub tell-under : (m n : MemoryStream) (es fs : List Entry) (at most : ℕ) (r : Result ℕ Refusal) → InMemory m → n ≡ m → r ≡ Ok (m .pos) → at ≡ m .pos → fs ≡ drop 1 es → Ok most ≡ verdict es (own call.Tell at) →
+    Leaves call.Tell (under fs (memory n)) (cutShort (memoryPile m)) (cutShort (memoryPile n)) r × st.Tell (under es (memory m)) (under fs (memory n)) r × (r ≡ granting (verdict es (own call.Tell (m .pos))) (λ _. Ok (m .pos)))
+tell-under m n es fs at most r ok same answer here used is =
+    rw (same, answer) (leaves-still call.Tell m fs (m .pos) ok, (refl, unmoved-under (memory m) es fs used), granted call.Tell es at (m .pos) most (λ _. Ok (m .pos)) here is)
+
+pub flush-under : (m n : MemoryStream) (es fs : List Entry) (at most : ℕ) (r : Result (Unit {0}) Refusal) → InMemory m → n ≡ m → r ≡ Ok tt → at ≡ m .pos → fs ≡ drop 1 es → Ok most ≡ verdict es (own call.Flush at) →
+    Leaves call.Flush (under fs (memory n)) (cutShort (memoryPile m)) (cutShort (memoryPile n)) r × st.Flush (under es (memory m)) (under fs (memory n)) r × (r ≡ granting (verdict es (own call.Flush (m .pos))) (λ _. Ok tt))
+flush-under m n es fs at most r ok same answer here used is =
+    rw (same, answer) (leaves-still call.Flush m fs tt ok, record { still = still-under (memory m) (memory m) es fs used (still-refl (memory m)); stored-shown = refl; held-shown = λ p b h. test-at (take (m .len) (now (m .bytes))) p b h }, granted call.Flush es at (m .pos) most (λ _. Ok tt) here is)
+
+-- a scripted stream need not move all it can
+pub whole-cut : (p : Pile) (s : Stream) (most : ℕ) (r : Result ℕ Refusal) → st.Whole (cutShort p) s most r
+whole-cut p s most (Ok n) = λ u v. let z : _≡_ {A = ℕ} 0 1 = cc in absurd (omega arith)
+whole-cut p s most (Err e) = tt

@@ -3,17 +3,21 @@ use mathlib.Core.Path.{_≡_, refl, sym, _∙_, ap, subst}
 use mathlib.Core.Bool.{Bool, true, false, _||_}
 use mathlib.Core.List.{List, _∷_, _++_}
 use mathlib.Core.Logic.{_⊎_, inl, inr, ⊎-elim}
-use Prim.Native.Nat.{ℕ, _+_, _-_, _≤_, _<_, min}
+use Prim.Native.Nat.{ℕ, _+_, _-_, _≤_, _<_, _^_, min}
 use native.Mathlib.Omega.{arith}
+use borrow.Author.Needs.{needs}
 use lib.Dec.{eqb}
 use lib.IntN.{ℤ, pos, _+ℤ_}
 use lib.ListN.{length, getD, take, drop, length-drop}
+use mir.Val.{Fits, SFits, toZ}
+use mir.Syntax.{w64}
 use Rattle.std.specs.Orderings.{When}
 use Rattle.std.specs.declared.option.Option.{Option}
 use Rattle.std.specs.declared.option.Option.the-variants.{Some, None}
 use Rattle.std.specs.declared.result.Result.{Result}
 use Rattle.std.specs.declared.result.Result.the-variants.{Ok, Err}
 use Rattle.std.proofs.shelf.Lists.{getD-drop, drop-drop}
+use Rattle.std.proofs.shelf.Signed.{ints}
 use Rattle.stream.specs.declared.refusal.Call.{Call}
 use Rattle.stream.specs.declared.refusal.Refusal.{Refusal}
 use Rattle.stream.specs.declared.refusal.Whence.{Whence}
@@ -23,6 +27,51 @@ use Rattle.stream.proofs.Bytes.{drop-laid, drop-resized}
 use Rattle.stream.proofs.Refusals.{below-as, as-source}
 use Rattle.stream.proofs.Streams.{kept-refl, kept-then, piled-refl, why-map, why-deeper}
 use Rattle.skip.specs.Skip.{skipped, skippedPile, InSkip, Says}
+
+-- ── numbers ──
+
+-- a place within a limit, as a signed number
+pub place-z : (n limit : ℕ) → n ≤ limit → limit ≤ 2 ^ 62 → toZ w64 n ≡ pos n
+place-z n limit le cap = omega (arith, ints)
+
+pub place-bits : (n limit : ℕ) → n ≤ limit → limit ≤ 2 ^ 62 → Fits w64 n
+place-bits n limit le cap = search needs
+
+pub place-signed : (n limit : ℕ) → n ≤ limit → limit ≤ 2 ^ 62 → SFits w64 (pos n)
+place-signed n limit le cap = search (ints, needs)
+
+-- the same, as what a seek from the start asks for
+pub seek-z : (n limit : ℕ) → n ≤ limit → limit ≤ 2 ^ 62 → toZ w64 n +ℤ pos 0 ≡ pos n
+seek-z n limit le cap = omega (arith, ints)
+
+-- the place that was asked for is the one that was found
+pub found-at : (n v m : ℕ) → pos n ≡ pos v → m ≡ v → m ≡ n
+found-at n v m is moved = omega (arith, ints)
+
+-- the header and a place past it lie within the limit
+pub past-head : (h p limit : ℕ) → h ≤ limit → p ≤ limit - h → h + p ≤ limit
+past-head h p limit head place = omega arith
+
+-- bytes from a position end within a limit, or past it
+pub ends-in : (n p limit limit′ : ℕ) → p ≤ limit′ → limit ≡ limit′ → n ≤ limit - p → p + n ≤ limit′
+ends-in n p limit limit′ place is le = omega arith
+
+pub ends-past : (n p limit limit′ : ℕ) → p ≤ limit′ → limit ≡ limit′ → limit - p < n → limit′ < p + n
+ends-past n p limit limit′ place is lt = omega arith
+
+pub not-past : (limit n : ℕ) → n ≤ limit → limit < n → ⊥
+not-past limit n le lt = omega arith
+
+-- bytes that fit from the place past the header on fit below
+pub fits-below : (n h p at limit limit′ : ℕ) → at ≡ h + p → limit′ ≡ limit → h ≤ limit → p + n ≤ limit - h → limit′ < at + n → ⊥
+fits-below n h p at limit limit′ is same head le lt = omega arith
+
+-- the end, as a seek counts it, and past the header
+pub end-fits : (n limit : ℕ) → n ≤ limit → 0 + n ≤ limit
+end-fits n limit le = omega arith
+
+pub end-past : (h v end : ℕ) (xs : List ℕ) → pos (0 + length xs) ≡ pos end → v ≡ end - h → v ≡ length (drop h xs)
+end-past h v end xs is less = let l = length-drop h xs in omega (arith, ints)
 
 -- ── the parts ──
 
@@ -52,7 +101,7 @@ piled-skip : (a b : Stream) (u v : Pile) (h p : ℕ) → Piled u v b → Piled (
 piled-skip a b u v h p k = record { headers-same = ap (λ (n : ℕ). n + h) (k .headers-same); whole-same = k .whole-same; based = based-skip b v h p (k .based) }
 
 -- the layer is in order after a step below, at a place within the limit
-stays : (a b : Stream) (u v : Pile) (h p q : ℕ) → InSkip a u h p → Sound b → Piled u v b → Kept a b → q ≤ a .limit - h → InSkip b v h q
+pub stays : (a b : Stream) (u v : Pile) (h p q : ℕ) → InSkip a u h p → Sound b → Piled u v b → Kept a b → q ≤ a .limit - h → InSkip b v h q
 stays a b u v h p q ok sound k l fits = let e = l .limit-same in record { sound = sound; based = k .based; head-fits = omega arith; place-fits = omega arith }
 
 -- a granted call

@@ -72,6 +72,7 @@ pub record Kept (s t : Stream) : Type 0 where
   pub steady-on : s .steady ≡ true → t .steady ≡ true
   pub held-from : (p b : ℕ) → t .held p b ≡ true → (s .held p b ≡ true) ⊎ At (t .shown) p b
 
+-- the pile below is the same, and its places are still those of the bottom stream
 pub record Piled (p q : Pile) (t : Stream) : Type 0 where
   pub headers-same : q .headers ≡ p .headers
   pub whole-same : q .whole ≡ p .whole

@@ -1,10 +1,15 @@
-use native.Mathlib.Omega.{arith}
 use Rattle.stream.proofs.Steps.{got-none, got-more}
-use Rattle.rows.proofs.OnRows.{fill-end, fill-refused}
+use Rattle.rows.proofs.OnRows.{fill-full, fill-less, fill-bits, fill-end, fill-refused}
 use Rattle.rows.proofs.rows.fill.Needs as need
 
 pub loop-n-holds : need.loop-n-holds
 loop-n-holds g c = (c .pre .0, c .pre .1, got-none (g .S·RawStream .view (c .args .s .now)) (c .args .row .now))
+
+pub add-n : need.add-n
+add-n g c = fill-bits (g .S·RawStream .view (c .args .s .now)) (g .S·RawStream .view (c .loop-n .s)) (g .S·RawStream .view (c .readinto .last .self)) (c .args .row .now) (c .loop-n .row) (c .readinto .last .buf) (c .loop-n .n) (c .in-Ok .m) (c .pre .1) (c .loop-n .inv .2) (c .in-Ok .ensures tt .rule)
+
+pub loop-n-less : need.loop-n-less
+loop-n-less g c = fill-less (g .S·RawStream .view (c .args .s .now)) (g .S·RawStream .view (c .loop-n .s)) (c .args .row .now) (c .loop-n .row) (c .loop-n .n) (c .in-Ok .m) (c .loop-n .inv .2) (c .loop-n-test .taken) (c .if-m-eq0 .left)
 
 pub loop-n-again : need.loop-n-again
 loop-n-again g c = (
@@ -33,6 +38,4 @@ returns-then-m-eq0 g c =
 
 pub returns : need.returns
 returns g c =
-    let k = c .loop-n .kept .row in
-    let t = c .loop-n-test .left in
-    record { order = c .loop-n .inv .0; rule = (c .loop-n .inv .2, λ short. absurd (omega arith)); said = tt; sound = c .loop-n .inv .1 }
+    record { order = c .loop-n .inv .0; rule = fill-full (g .S·RawStream .view (c .args .s .now)) (g .S·RawStream .view (c .loop-n .s)) (c .args .row .now) (c .loop-n .row) (c .loop-n .n) (c .loop-n .inv .2) (c .loop-n-test .left); said = tt; sound = c .loop-n .inv .1 }

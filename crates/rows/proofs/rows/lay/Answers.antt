@@ -1,6 +1,15 @@
 use mathlib.Core.Logic.{inl}
-use Rattle.rows.proofs.OnRows.{lay-more, lay-refused, lay-done}
+use Rattle.rows.proofs.OnRows.{lay-none, lay-less, lay-bits, lay-more, lay-refused, lay-done}
 use Rattle.rows.proofs.rows.lay.Needs as need
+
+pub loop-n-holds : need.loop-n-holds
+loop-n-holds g c = let n = lay-none (g .S·RawStream .view (c .args .s .now)) (c .args .row .now) in (c .pre .0, c .pre .1, n .0, n .1, n .2)
+
+pub add-n : need.add-n
+add-n g c = lay-bits (g .S·RawStream .view (c .args .s .now)) (g .S·RawStream .view (c .loop-n .s)) (g .S·RawStream .view (c .write .last .self)) (c .args .row .now) (c .loop-n .n) (c .in-Ok .m) (c .pre .1) (c .loop-n .inv .3) (c .loop-n .inv .2) (c .in-Ok .ensures tt .rule)
+
+pub loop-n-less : need.loop-n-less
+loop-n-less g c = lay-less (g .S·RawStream .view (c .loop-n .s)) (g .S·RawStream .view (c .write .last .self)) (c .args .row .now) (c .loop-n .n) (c .in-Ok .m) (c .loop-n-test .taken) (c .in-Ok .ensures tt .rule)
 
 pub loop-n-again : need.loop-n-again
 loop-n-again g c =

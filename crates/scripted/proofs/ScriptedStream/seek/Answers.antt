@@ -1,4 +1,4 @@
-use mathlib.Core.Path.{_≡_, refl, _∙_}
+use mathlib.Core.Path.{_≡_, refl, sym, _∙_}
 use borrow.Author.Needs.{needs}
 use Rattle.std.specs.declared.option.Option.the-variants.{None}
 use Rattle.std.proofs.shelf.Signed.{toZ-ofZ}
@@ -7,8 +7,29 @@ use Rattle.stream.specs.Stream.{whenceOf}
 use Rattle.stream.specs.Answers.{seekAnswer}
 use Rattle.memory.specs.Memory.{memory}
 use Rattle.scripted.specs.Scripted.{entriesLeft, scripted}
-use Rattle.scripted.proofs.OnScript.{seek-refuses, leaves-under, granted, seek-under, seek-answer}
+use Rattle.scripted.proofs.OnScript.{not-some, seek-bad, seek-refuses, leaves-under, granted, seek-under, seek-answer}
 use Rattle.scripted.proofs.ScriptedStream.seek.Needs as need
+
+pub whence-of-requires : need.whence-of-requires
+whence-of-requires c κs = tt
+
+pub returns-then-is-none : need.returns-then-is-none
+returns-then-is-none c =
+    let s = c .args .self .now in
+    let h = c .fits .whence in
+    let e = simp toZ-ofZ at (c .whence-of .ensures) in
+    let none : whenceOf (c .args .whence) ≡ None = sym e ∙ not-some (c .whence-of .result) (c .if-is-none .ensures tt) in
+    let r = seek-bad (s .memory) (entriesLeft (s .script)) (c .args .target) (whenceOf (c .args .whence)) (c .pre) none in
+    record { order = c .pre; leaves = r .0; rule = r .1; refused = λ _. (refl, refl); answer = λ some. absurd (some none); used = λ some. absurd (some none) }
+
+pub position-pos-requires : need.position-pos-requires
+position-pos-requires c κs = tt
+
+pub next-requires : need.next-requires
+next-requires c κs = tt
+
+pub seek-requires : need.seek-requires
+seek-requires c κs = c .pre
 
 pub returns-in-Err : need.returns-in-Err
 returns-in-Err c =
