@@ -17,18 +17,28 @@ pub enum Step {
     Limit,
 }
 
+fn code(rt: &LibcRuntime, e: Refusal) -> io::Result<()> {
+    match e.code() {
+        Some(code) => print!(rt, " code {code}"),
+        None => Ok(()),
+    }
+}
+
+fn origin(rt: &LibcRuntime, e: Refusal) -> io::Result<()> {
+    let Some(o) = e.origin() else {
+        return Ok(());
+    };
+    let call = o.call;
+    let position = o.position;
+    let layers = o.layers;
+    print!(rt, " call {call} at {position} layers {layers}")
+}
+
 pub fn refused(rt: &LibcRuntime, e: Refusal) -> io::Result<()> {
     let number = e.number();
     print!(rt, "refused {number}")?;
-    if let Some(code) = e.code() {
-        print!(rt, " code {code}")?;
-    }
-    if let Some(o) = e.origin() {
-        let call = o.call;
-        let position = o.position;
-        let layers = o.layers;
-        print!(rt, " call {call} at {position} layers {layers}")?;
-    }
+    code(rt, e)?;
+    origin(rt, e)?;
     println!(rt, "")
 }
 
