@@ -1,4 +1,6 @@
 // The calls of a stream: what their arguments ask for, and why one is refused.
+#![tactic(auto)]
+
 pub mod goal;
 pub mod notice;
 pub mod refusal;

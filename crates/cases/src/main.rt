@@ -1,4 +1,6 @@
 // Runs the worked cases and every refusal, and prints the answers; the file stdout has what the rules say they are.
+#![tactic(auto)]
+
 use std::io;
 
 mod answer;

@@ -1,4 +1,6 @@
 // Patches a curve file: commands on standard input, and the file is replaced only where everything was granted.
+#![tactic(auto)]
+
 use anyhow::anyhow;
 use curves::Ending;
 use options::Options;

@@ -1,4 +1,6 @@
 // Runs of the curve program's work on a file of its own: the file is the new one where all was granted, and else the old one.
+#![tactic(auto)]
+
 use curves::{Ending, Settings};
 use std::{fs, io};
 

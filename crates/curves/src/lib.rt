@@ -1,4 +1,6 @@
 // Patches the quotes of a curve file by commands, and replaces the file only where everything was granted.
+#![tactic(auto)]
+
 use calls::sizes::buffer_size;
 use memory::MemoryStream;
 use quotes::basis_points::BasisPoints;

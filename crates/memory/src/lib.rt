@@ -1,4 +1,6 @@
 // A stream on the caller's slice.
+#![tactic(auto)]
+
 ghost use Rattle.std.specs.Prelude.{◌≡◌, ℕ, ◌+◌, ◌-◌, ◌^◌, ◌≤◌, min, ◌++◌, length, take, drop, replicate, Ok};
 ghost use Rattle.calls.specs.Places.{whence_for, size_of};
 ghost use Rattle.stream.specs.Stream.{Sound, Based, Leaves, ReadInto, Write, SeekBy, Tell, Truncate, Flush, Whole, left, origin as starts};

@@ -1,3 +1,5 @@
 // Kinds of quotes, each of a fixed width.
+#![tactic(auto)]
+
 pub mod basis_points;
 pub mod quote;

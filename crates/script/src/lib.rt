@@ -1,4 +1,6 @@
 // A list of entries, of which each call uses one.
+#![tactic(auto)]
+
 ghost use Rattle.std.specs.Prelude.{◌≡◌, drop};
 ghost use Rattle.calls.specs.Refusal.{own};
 ghost use Rattle.script.specs.Script.{entries_left, judged, second, verdict};

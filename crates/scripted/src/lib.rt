@@ -1,4 +1,6 @@
 // A memory stream whose calls a script may cut short or refuse.
+#![tactic(auto)]
+
 ghost use Rattle.std.specs.Prelude.{◌≡◌, ℕ, min, List, length, drop, Some, None, Ok, Err, ◌≢◌};
 ghost use Rattle.calls.specs.Refusal.{own};
 ghost use Rattle.calls.specs.Places.{whence_for, size_of};

@@ -1,4 +1,6 @@
 // A stream without the header of the one below.
+#![tactic(auto)]
+
 ghost use Rattle.std.specs.Prelude.{◌≡◌, ℕ, ◌+◌, ◌-◌, ◌<◌, ◌≤◌, min, ◌∷◌, length, Some, None, Ok, Err, ◌≢◌};
 ghost use Rattle.calls.specs.Refusal.{own};
 ghost use Rattle.stream.specs.Source.{FromBelow};
