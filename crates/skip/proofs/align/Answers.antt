@@ -25,8 +25,8 @@ returns-in-Err g c =
     let e = c.in-Err.ensures in
     record { order = c.seek.ensures.order; sound = l.sound; piled = l.piled; below = pass_up call.Seek call.Seek b.position (g.S.RawStream.pile c.seek.new.self).places c.in-Err.e c.deeper.result (inl refl) e.leaves.source c.deeper.ensures; rule = refused_deeper (Outside a (pos p)) ⊥ a b c.in-Err.e c.deeper.result (in_range a p c.requires.1) (λ x. x) (refused_is a b (to_z w64 p +ℤ pos 0) (pos p) c.in-Err.e z e.rule) c.deeper.ensures }
 
-pub overflow-cast-place : goal.overflow-cast-place
-overflow-cast-place g c = place_signed c.args.place (g.S.RawStream.view c.args.raw.now).limit c.requires.1 c.requires.2.capped
+pub overflow_cast-place : goal.overflow_cast-place
+overflow_cast-place g c = place_signed c.args.place (g.S.RawStream.view c.args.raw.now).limit c.requires.1 c.requires.2.capped
 
 pub seek-requires : goal.seek-requires
 seek-requires g c = c.requires.0

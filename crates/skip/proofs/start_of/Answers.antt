@@ -34,7 +34,7 @@ returns-in-Ok g c =
     let l = c.seek.ensures.leaves in
     let a = g.S.RawStream.view c.args.raw.now in
     let r = c.in-Ok.ensures.rule in
-    let v = end_past c.args.head c.saturating-sub.result c.in-Ok.end a.shown r.goal_is c.saturating-sub.ensures in
+    let v = end_past c.args.head c.saturating_sub.result c.in-Ok.end a.shown r.goal_is c.saturating_sub.ensures in
     record { order = c.seek.ensures.order; sound = l.sound; piled = l.piled; below = tt; alone = λ other. absurd (other c.in-End.is); rule = (v ∙ ap (λ (o : Whence). origin (skipped a c.args.head c.args.place) o) (sym c.in-End.is), r.kept, r.shown_same) }
 
 pub seek-requires : goal.seek-requires

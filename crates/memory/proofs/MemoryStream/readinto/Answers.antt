@@ -7,14 +7,14 @@ use Rattle.memory.proofs.MemoryStream.readinto.Goals as goal
 pub returns-then-n-eq0 : goal.returns-then-n-eq0
 returns-then-n-eq0 c =
     let s = c.args.self.now in
-    let r = read_none s.bytes.now c.args.buf.now s.len s.pos c.min-n.result c.requires (c.min-n.ensures ∙ ap (min (length c.args.buf.now)) c.saturating-sub.ensures) c.if-n-eq0.true in
+    let r = read_none s.bytes.now c.args.buf.now s.len s.pos c.min-n.result c.requires (c.min-n.ensures ∙ ap (min (length c.args.buf.now)) c.saturating_sub.ensures) c.if-n-eq0.true in
     record { order = c.requires; leaves = r.0; rule = r.1; answer = r.2 }
 
 pub returns : goal.returns
 returns c =
     let s = c.args.self.now in
     let fits = c.requires.len_fits in
-    let n : c.min-n.result ≡ min (length c.args.buf.now) (s.len - s.pos) = c.min-n.ensures ∙ ap (min (length c.args.buf.now)) c.saturating-sub.ensures in
+    let n : c.min-n.result ≡ min (length c.args.buf.now) (s.len - s.pos) = c.min-n.ensures ∙ ap (min (length c.args.buf.now)) c.saturating_sub.ensures in
     let l = left_file s.bytes.now s.len s.pos (omega arith) in
     let ok : InRoom s.bytes.now s.len (s.pos + c.min-n.result) = search rules in
     record {

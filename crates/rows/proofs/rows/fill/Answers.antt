@@ -5,8 +5,8 @@ use Rattle.rows.proofs.rows.fill.Goals as goal
 pub loop-n-init : goal.loop-n-init
 loop-n-init g c = (c.requires.0, c.requires.1, got_none (g.S.RawStream.view c.args.s.now) c.args.row.now)
 
-pub overflow-add-n : goal.overflow-add-n
-overflow-add-n g c = fill_bits (g.S.RawStream.view c.args.s.now) (g.S.RawStream.view c.loop-n.s) (g.S.RawStream.view c.readinto.new.self) c.args.row.now c.loop-n.row c.readinto.new.buf c.loop-n.n c.in-Ok.m c.requires.1 c.loop-n.invariant.2 c.in-Ok.ensures.rule
+pub overflow_add-n : goal.overflow_add-n
+overflow_add-n g c = fill_bits (g.S.RawStream.view c.args.s.now) (g.S.RawStream.view c.loop-n.s) (g.S.RawStream.view c.readinto.new.self) c.args.row.now c.loop-n.row c.readinto.new.buf c.loop-n.n c.in-Ok.m c.requires.1 c.loop-n.invariant.2 c.in-Ok.ensures.rule
 
 pub loop-n-smaller : goal.loop-n-smaller
 loop-n-smaller g c = fill_less (g.S.RawStream.view c.args.s.now) (g.S.RawStream.view c.loop-n.s) c.args.row.now c.loop-n.row c.loop-n.n c.in-Ok.m c.loop-n.invariant.2 c.loop-n-test.true c.if-m-eq0.false

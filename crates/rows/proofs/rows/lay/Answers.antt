@@ -5,8 +5,8 @@ use Rattle.rows.proofs.rows.lay.Goals as goal
 pub loop-n-init : goal.loop-n-init
 loop-n-init g c = let n = lay_none (g.S.RawStream.view c.args.s.now) c.args.row.now in (c.requires.0, c.requires.1, n.0, n.1, n.2)
 
-pub overflow-add-n : goal.overflow-add-n
-overflow-add-n g c = lay_bits (g.S.RawStream.view c.args.s.now) (g.S.RawStream.view c.loop-n.s) (g.S.RawStream.view c.write.new.self) c.args.row.now c.loop-n.n c.in-Ok.m c.requires.1 c.loop-n.invariant.3 c.loop-n.invariant.2 c.in-Ok.ensures.rule
+pub overflow_add-n : goal.overflow_add-n
+overflow_add-n g c = lay_bits (g.S.RawStream.view c.args.s.now) (g.S.RawStream.view c.loop-n.s) (g.S.RawStream.view c.write.new.self) c.args.row.now c.loop-n.n c.in-Ok.m c.requires.1 c.loop-n.invariant.3 c.loop-n.invariant.2 c.in-Ok.ensures.rule
 
 pub loop-n-smaller : goal.loop-n-smaller
 loop-n-smaller g c = lay_less (g.S.RawStream.view c.loop-n.s) (g.S.RawStream.view c.write.new.self) c.args.row.now c.loop-n.n c.in-Ok.m c.loop-n-test.true c.in-Ok.ensures.rule

@@ -14,8 +14,8 @@ returns-then-not-encode g c =
       said = tt;
     }
 
-pub overflow-cast-start : goal.overflow-cast-start
-overflow-cast-start g c = start_signed c.args.start c.requires.2
+pub overflow_cast-start : goal.overflow_cast-start
+overflow_cast-start g c = start_signed c.args.start c.requires.2
 
 pub seek-requires : goal.seek-requires
 seek-requires g c = c.requires.0
@@ -40,6 +40,6 @@ returns g c =
     let is = written g.Q.Quote.writes c.args.value c.args.row.now c.encode.new.row g.Q.Quote.width c.encode.result c.ranges.value c.encode.ensures.said c.encode.ensures.bytes c.if-not-encode.false in
     record {
       order = c.lay.ensures.order;
-      rule = put_laid (g.Q.Quote.writes c.args.value) c.encode.new.row c.args.start (g.S.RawStream.view c.args.s.now) (g.S.RawStream.view c.seek.new.self) (g.S.RawStream.view c.lay.new.s) c.in-default.field-0 c.lay.result is c.limit.ensures.sound c.requires.2 c.in-default.ensures.rule c.lay.ensures.rule;
+      rule = put_laid (g.Q.Quote.writes c.args.value) c.encode.new.row c.args.start (g.S.RawStream.view c.args.s.now) (g.S.RawStream.view c.seek.new.self) (g.S.RawStream.view c.lay.new.s) c.in_default.field-0 c.lay.result is c.limit.ensures.sound c.requires.2 c.in_default.ensures.rule c.lay.ensures.rule;
       said = put_said call.Seek (call.Write ∷ []) (g.S.RawStream.view c.lay.new.s) (g.S.RawStream.pile c.lay.new.s) c.lay.result c.lay.ensures.said;
     }

@@ -5,12 +5,12 @@ use Rattle.script.specs.Script.{entries_left}
 use Rattle.scripted.proofs.OnScript.{script_refuses, flush_under}
 use Rattle.scripted.proofs.ScriptedStream.flush.Goals as goal
 
-pub returns-in-err-next : goal.returns-in-err-next
-returns-in-err-next c =
+pub returns-in_err-next : goal.returns-in_err-next
+returns-in_err-next c =
     let s = c.args.self.now in
-    let p = err_from_is_err_and c.from-residual.result c.from-residual.ensures.1 in
-    let a = c.in-err-next.ensures in
-    let r = script_refuses {X = Unit {0}} ⊥ ⊥ call.Flush s.memory (entries_left s.script) (entries_left c.next.new.self) _ c.in-err-next.field-0.0 (λ _. Ok tt) c.requires c.position-pos.ensures a.used a.answer in
+    let p = err_from_is_err_and c.from_residual.result c.from_residual.ensures.1 in
+    let a = c.in_err-next.ensures in
+    let r = script_refuses {X = Unit {0}} ⊥ ⊥ call.Flush s.memory (entries_left s.script) (entries_left c.next.new.self) _ c.in_err-next.field-0.0 (λ _. Ok tt) c.requires c.position-pos.ensures a.used a.answer in
     rw (p.1, p.2) (record { memory = refl; leaves = r.0; rule = r.1; answer = r.2; used = a.used })
 
 pub flush-requires : goal.flush-requires
@@ -19,6 +19,6 @@ flush-requires c = c.requires
 pub returns : goal.returns
 returns c =
     let s = c.args.self.now in
-    let a = c.in-ok-next.ensures in
-    let r = flush_under s.memory c.flush.new.self (entries_left s.script) (entries_left c.next.new.self) c.position-pos.result c.in-ok-next.field-0 c.flush.result c.requires c.flush.ensures.same c.flush.ensures.answer c.position-pos.ensures a.used a.answer in
+    let a = c.in_ok-next.ensures in
+    let r = flush_under s.memory c.flush.new.self (entries_left s.script) (entries_left c.next.new.self) c.position-pos.result c.in_ok-next.field-0 c.flush.result c.requires c.flush.ensures.same c.flush.ensures.answer c.position-pos.ensures a.used a.answer in
     record { memory = c.flush.ensures.same; leaves = r.0; rule = r.1; answer = r.2; used = a.used }

@@ -9,12 +9,12 @@ use Rattle.scripted.specs.Scripted.{at_most}
 use Rattle.scripted.proofs.OnScript.{script_refuses, leaves_under, most_some, granted, read_under, read_answer}
 use Rattle.scripted.proofs.ScriptedStream.readinto.Goals as goal
 
-pub returns-in-err-most : goal.returns-in-err-most
-returns-in-err-most c =
+pub returns-in_err-most : goal.returns-in_err-most
+returns-in_err-most c =
     let s = c.args.self.now in
-    let p = err_from_is_err_and c.from-residual.result c.from-residual.ensures.1 in
-    let a = c.in-err-most.ensures in
-    let r = script_refuses ⊥ ⊥ call.ReadInto s.memory (entries_left s.script) (entries_left c.next.new.self) _ c.in-err-most.field-0.0 (at_most (all_read (memory s.memory) (length c.args.buf.now))) c.requires c.position-pos.ensures a.used a.answer in
+    let p = err_from_is_err_and c.from_residual.result c.from_residual.ensures.1 in
+    let a = c.in_err-most.ensures in
+    let r = script_refuses ⊥ ⊥ call.ReadInto s.memory (entries_left s.script) (entries_left c.next.new.self) _ c.in_err-most.field-0.0 (at_most (all_read (memory s.memory) (length c.args.buf.now))) c.requires c.position-pos.ensures a.used a.answer in
     rw (p.1, p.2) (record { order = c.requires; leaves = r.0; rule = (refl, r.1); answer = r.2; used = a.used })
 
 pub returns : goal.returns
@@ -22,8 +22,8 @@ returns c =
     let s = c.args.self.now in
     let es = entries_left s.script in
     let fs = entries_left c.next.new.self in
-    let a = c.in-ok-most.ensures in
-    let most = c.in-ok-most.most in
+    let a = c.in_ok-most.ensures in
+    let most = c.in_ok-most.most in
     let buf = c.args.buf.now in
     let t = memory c.readinto.new.self in
     record {

@@ -9,15 +9,15 @@ use Rattle.scripted.specs.Scripted.{scripted}
 use Rattle.scripted.proofs.OnScript.{not_some, seek_bad, seek_refuses, leaves_under, granted, seek_under, seek_answered}
 use Rattle.scripted.proofs.ScriptedStream.seek.Goals as goal
 
-pub whence-of-requires : goal.whence-of-requires
-whence-of-requires c = tt
+pub whence_of-requires : goal.whence_of-requires
+whence_of-requires c = tt
 
 pub returns-then-is-none : goal.returns-then-is-none
 returns-then-is-none c =
     let s = c.args.self.now in
     let h = c.ranges.whence in
-    let e = simp to_z-of_z at c.whence-of.ensures in
-    let none : whence_for c.args.whence ≡ None = sym e ∙ not_some c.whence-of.result c.if-is-none.ensures in
+    let e = simp to_z-of_z at c.whence_of.ensures in
+    let none : whence_for c.args.whence ≡ None = sym e ∙ not_some c.whence_of.result c.if-is-none.ensures in
     let r = seek_bad s.memory (entries_left s.script) c.args.target (whence_for c.args.whence) c.requires none in
     record { order = c.requires; leaves = r.0; rule = r.1; refused = λ _. (refl, refl); answer = λ some. absurd (some none); used = λ some. absurd (some none) }
 
@@ -35,8 +35,8 @@ returns-in-Err c =
     let s = c.args.self.now in
     let a = c.in-Err.ensures in
     let h = c.ranges.whence in
-    let e = simp to_z-of_z at c.whence-of.ensures in
-    let some : whence_for c.args.whence ≡ None → ⊥ = λ n. let z : c.whence-of.result ≡ None = e ∙ n in search rules in
+    let e = simp to_z-of_z at c.whence_of.ensures in
+    let some : whence_for c.args.whence ≡ None → ⊥ = λ n. let z : c.whence_of.result ≡ None = e ∙ n in search rules in
     let r = seek_refuses s.memory (entries_left s.script) (entries_left c.next.new.self) _ c.in-Err.e c.args.target (whence_for c.args.whence) c.requires c.position-pos.ensures a.used a.answer some in
     record { order = c.requires; leaves = r.0; rule = r.1; refused = λ n. absurd (some n); answer = λ _. r.2; used = λ _. a.used }
 
@@ -48,11 +48,11 @@ returns-in-Ok c =
     let a = c.in-Ok.ensures in
     let h = c.ranges.whence in
     let k = c.ranges.target in
-    let e = simp to_z-of_z at c.whence-of.ensures in
+    let e = simp to_z-of_z at c.whence_of.ensures in
     let q = simp to_z-of_z at c.seek.ensures.rule in
     let t = memory c.seek.new.self in
     let w = whence_for c.args.whence in
-    let some : whence_for c.args.whence ≡ None → ⊥ = λ n. let z : c.whence-of.result ≡ None = e ∙ n in search rules in
+    let some : whence_for c.args.whence ≡ None → ⊥ = λ n. let z : c.whence_of.result ≡ None = e ∙ n in search rules in
     record {
       order = c.seek.ensures.order;
       leaves = leaves_under call.Seek t _ _ fs c.seek.result c.seek.ensures.leaves;

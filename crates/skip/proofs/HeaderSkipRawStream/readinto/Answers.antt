@@ -24,7 +24,7 @@ returns-in-Err-readinto g c =
     let a = g.S.RawStream.view s.raw in
     let b = g.S.RawStream.view m in
     let d = g.S.RawStream.view t in
-    let r = c.in-default.ensures.rule in
+    let r = c.in_default.ensures.rule in
     let e = c.in-Err-readinto.ensures in
     let l = c.readinto.ensures.leaves in
     let k = piled_then (g.S.RawStream.pile s.raw) (g.S.RawStream.pile m) (g.S.RawStream.pile t) b d c.align.ensures.piled l.piled in
@@ -38,7 +38,7 @@ returns-in-Ok g c =
     let m = c.align.new.raw in
     let t = c.readinto.new.self in
     let b = g.S.RawStream.view m in
-    let r = c.in-default.ensures.rule in
+    let r = c.in_default.ensures.rule in
     let at : b.position ≡ s.head + s.pos = let p = r.goal_is in let q = r.moved in omega (arith, ints) in
     let l = c.readinto.ensures.leaves in
     let e = c.in-Ok.ensures in

@@ -57,8 +57,8 @@ returns-in-Ok g c =
 pub limit-limit-requires : goal.limit-limit-requires
 limit-limit-requires g c = c.requires
 
-pub overflow-add-place : goal.overflow-add-place
-overflow-add-place g c =
+pub overflow_add-place : goal.overflow_add-place
+overflow_add-place g c =
     let s = c.args.self.now in
     let a = g.S.RawStream.view s.raw in
     let ok = c.requires.1 in
@@ -66,8 +66,8 @@ overflow-add-place g c =
     let o = within_at c.limit-limit.result (a.limit - s.head) z z (Some c.in-Some.v) c.limit-limit.ensures.value (refl {a = z}) c.in-Some.ensures in
     place_bits (s.head + c.in-Some.v) a.limit (past_head s.head c.in-Some.v a.limit ok.head_fits (within_is (a.limit - s.head) z c.in-Some.v o).1) ok.sound.capped
 
-pub overflow-cast-place-in-Some : goal.overflow-cast-place-in-Some
-overflow-cast-place-in-Some g c =
+pub overflow_cast-place-in-Some : goal.overflow_cast-place-in-Some
+overflow_cast-place-in-Some g c =
     let s = c.args.self.now in
     let a = g.S.RawStream.view s.raw in
     let ok = c.requires.1 in
