@@ -12,12 +12,12 @@ use Rattle.scripted.proofs.ScriptedStream.seek.Goals as goal
 pub whence_of-requires : goal.whence_of-requires
 whence_of-requires c = tt
 
-pub returns-then-is-none : goal.returns-then-is-none
-returns-then-is-none c =
+pub returns-then-is_none : goal.returns-then-is_none
+returns-then-is_none c =
     let s = c.args.self.now in
     let h = c.ranges.whence in
     let e = simp to_z-of_z at c.whence_of.ensures in
-    let none : whence_for c.args.whence ≡ None = sym e ∙ not_some c.whence_of.result c.if-is-none.ensures in
+    let none : whence_for c.args.whence ≡ None = sym e ∙ not_some c.whence_of.result c.if-is_none.ensures in
     let r = seek_bad s.memory (entries_left s.script) c.args.target (whence_for c.args.whence) c.requires none in
     record { order = c.requires; leaves = r.0; rule = r.1; refused = λ _. (refl, refl); answer = λ some. absurd (some none); used = λ some. absurd (some none) }
 

@@ -29,8 +29,8 @@ overflow_sub-limit c =
     let s = c.args.self.now in
     placed_within c.position-pos.result s.memory.pos c.limit.result (room s.memory.bytes.now) c.position-pos.ensures c.limit.ensures c.requires.place_fits
 
-pub slice-bounds-write-end : goal.slice-bounds-write-end
-slice-bounds-write-end c = front_length c.args.buf.now c.min-k.result c.in_ok-most.most c.min-k.ensures
+pub slice_bounds-write-end : goal.slice_bounds-write-end
+slice_bounds-write-end c = front_length c.args.buf.now c.min-k.result c.in_ok-most.most c.min-k.ensures
 
 pub write-requires : goal.write-requires
 write-requires c = c.requires
