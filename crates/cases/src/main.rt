@@ -5,7 +5,7 @@ use std::io;
 
 mod answer;
 mod digit;
-mod quotes;
+mod quoted;
 mod steps;
 mod streams;
 
@@ -16,9 +16,9 @@ fn main(rt: HostRuntime) -> io::Result<()> {
     streams::all_header(&rt)?;
     streams::passed_on(&rt)?;
     streams::sizes(&rt)?;
-    quotes::basis_points(&rt)?;
-    quotes::in_memory(&rt)?;
-    quotes::in_trouble(&rt)?;
-    quotes::digits(&rt)?;
+    quoted::basis_points(&rt)?;
+    quoted::in_memory(&rt)?;
+    quoted::in_trouble(&rt)?;
+    quoted::digits(&rt)?;
     streams::each_kind(&rt)
 }

@@ -21,7 +21,7 @@ enum Slot {
 fn number(flag: &str, word: &str) -> anyhow::Result<i64> {
     match word.parse::<i64>() {
         Ok(n) => Ok(n),
-        Err(_) => Err(flag.into()),
+        Err(_) => Err(anyhow!("{flag}")),
     }
 }
 

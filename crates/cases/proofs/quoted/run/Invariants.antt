@@ -1,4 +1,4 @@
-use Rattle.cases.proofs.quotes.run.Given as goal
+use Rattle.cases.proofs.quoted.run.Given as goal
 
 -- the stream stays in order
 abbrev pub invariant-loop-one : goal.invariant-loop-one
