@@ -2,20 +2,22 @@
 use crate::refusal::{Call, Refusal};
 use std::fmt;
 
-fn reason(e: Refusal) -> &'static str {
-    match e {
-        Refusal::BufferTooSmall => "the buffer size is below 1",
-        Refusal::BufferTooLarge => "the buffer size is above 8192",
-        Refusal::HeaderTooLong => "the header is longer than the stream's limit",
-        Refusal::BadReadSize => "the size to read is below -1",
-        Refusal::ShortBuffer => "the caller's buffer is shorter than the size",
-        Refusal::BadWhence => "the whence is not 0, 1 or 2",
-        Refusal::NotNow(_) => "not now: the stream is busy",
-        Refusal::BadCount(_) => "the stream's count was outside what was asked",
-        Refusal::BadPosition(_) => "the stream's position was below 0",
-        Refusal::Fault(_, _) => "the stream's own fault",
-        Refusal::OutOfRange(_) => "a seek or truncate out of range",
-        Refusal::PastLimit(_) => "a write past the limit",
+impl Refusal {
+    fn words(self) -> &'static str {
+        match self {
+            Refusal::BufferTooSmall => "the buffer size is below 1",
+            Refusal::BufferTooLarge => "the buffer size is above 8192",
+            Refusal::HeaderTooLong => "the header is longer than the stream's limit",
+            Refusal::BadReadSize => "the size to read is below -1",
+            Refusal::ShortBuffer => "the caller's buffer is shorter than the size",
+            Refusal::BadWhence => "the whence is not 0, 1 or 2",
+            Refusal::NotNow(_) => "not now: the stream is busy",
+            Refusal::BadCount(_) => "the stream's count was outside what was asked",
+            Refusal::BadPosition(_) => "the stream's position was below 0",
+            Refusal::Fault(_, _) => "the stream's own fault",
+            Refusal::OutOfRange(_) => "a seek or truncate out of range",
+            Refusal::PastLimit(_) => "a write past the limit",
+        }
     }
 }
 
@@ -36,7 +38,7 @@ impl fmt::Display for Call {
 impl fmt::Display for Refusal {
     fn fmt<W: fmt::Write>(&self, f: &mut fmt::Formatter<W>) -> fmt::Result {
         let number = self.number();
-        let words = reason(*self);
+        let words = self.words();
         write!(f, "{number}: {words}")
     }
 }

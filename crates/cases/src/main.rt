@@ -3,7 +3,6 @@
 
 use std::io;
 
-mod answer;
 mod digit;
 mod quoted;
 mod steps;
@@ -11,9 +10,7 @@ mod streams;
 
 fn main(rt: HostRuntime) -> io::Result<()> {
     streams::in_memory(&rt)?;
-    streams::checked(&rt)?;
     streams::behind_header(&rt)?;
-    streams::all_header(&rt)?;
     streams::passed_on(&rt)?;
     streams::sizes(&rt)?;
     quoted::basis_points(&rt)?;

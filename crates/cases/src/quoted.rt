@@ -1,6 +1,6 @@
 // The worked cases of quotes and rows.
-use crate::answer::{Hex, Told};
 use crate::digit::Digit;
+use crate::steps;
 use memory::MemoryStream;
 use quotes::basis_points::BasisPoints;
 use quotes::quote::Quote;
@@ -8,7 +8,7 @@ use rows::refusal::{PutRefusal, RowRefusal};
 use rows::rows::{get, patch, put};
 use script::Entry;
 use scripted::ScriptedStream;
-use std::{fmt, io};
+use std::io;
 use stream::raw::RawStream;
 
 // Puts, gets and patches of rows as a table.
@@ -19,75 +19,48 @@ enum Turn {
     Patch(u32, i32),
 }
 
-impl fmt::Display for Turn {
-    fn fmt<W: fmt::Write>(&self, f: &mut fmt::Formatter<W>) -> fmt::Result {
-        match self {
-            Turn::Get(i) => write!(f, "get {i}"),
-            Turn::Put(i, value) => write!(f, "put {i} {value}"),
-            Turn::Patch(i, value) => write!(f, "patch {i} {value}"),
+fn why(rt: &HostRuntime, e: RowRefusal) -> io::Result<()> {
+    match e {
+        RowRefusal::Below(e) => steps::refused(rt, e),
+        e => {
+            let number = e.number();
+            println!(rt; "refused {number}")
         }
     }
 }
 
-// What a row call answered.
-#[derive(Clone, Copy)]
-enum Reply {
-    Done,
-    Value(i32),
-    NotGot(RowRefusal),
-    NotPut(PutRefusal),
+fn fresh(rt: &HostRuntime, e: PutRefusal) -> io::Result<()> {
+    let n = e.fresh;
+    print!(rt; "{n} new, ")?;
+    why(rt, e.why)
 }
 
-// A row's refusal: its number, or all that the stream told.
-#[derive(Clone, Copy)]
-struct Why(RowRefusal);
-
-impl fmt::Display for Why {
-    fn fmt<W: fmt::Write>(&self, f: &mut fmt::Formatter<W>) -> fmt::Result {
-        if let RowRefusal::Below(e) = self.0 {
-            let told = Told(e);
-            return write!(f, "{told}");
-        }
-        let number = self.0.number();
-        write!(f, "refused {number}")
-    }
-}
-
-impl fmt::Display for Reply {
-    fn fmt<W: fmt::Write>(&self, f: &mut fmt::Formatter<W>) -> fmt::Result {
-        match self {
-            Reply::Done => write!(f, "ok"),
-            Reply::Value(v) => write!(f, "ok {v}"),
-            Reply::NotGot(e) => {
-                let why = Why(*e);
-                write!(f, "{why}")
-            }
-            Reply::NotPut(e) => {
-                let why = Why(e.why);
-                let fresh = e.fresh;
-                write!(f, "{fresh} new, {why}")
-            }
-        }
-    }
-}
-
-fn serve<Q: Quote, S: RawStream>(s: &mut S, turn: Turn) -> Reply
+fn make<Q: Quote, S: RawStream>(rt: &HostRuntime, s: &mut S, turn: Turn) -> io::Result<()>
     requires { S.RawStream.ready s.old }
     ensures { S.RawStream.ready s.new }
 {
     match turn {
-        Turn::Get(i) => match get::<Q, S>(s, i) {
-            Ok(v) => Reply::Value(v),
-            Err(e) => Reply::NotGot(e),
-        },
-        Turn::Put(i, value) => match put::<Q, S>(s, i, value) {
-            Ok(()) => Reply::Done,
-            Err(e) => Reply::NotPut(e),
-        },
-        Turn::Patch(i, value) => match patch::<Q, S>(s, i, value) {
-            Ok(v) => Reply::Value(v),
-            Err(e) => Reply::NotPut(e),
-        },
+        Turn::Get(i) => {
+            print!(rt; "get {i}: ")?;
+            match get::<Q, S>(s, i) {
+                Ok(v) => println!(rt; "ok {v}"),
+                Err(e) => why(rt, e),
+            }
+        }
+        Turn::Put(i, value) => {
+            print!(rt; "put {i} {value}: ")?;
+            match put::<Q, S>(s, i, value) {
+                Ok(()) => println!(rt; "ok"),
+                Err(e) => fresh(rt, e),
+            }
+        }
+        Turn::Patch(i, value) => {
+            print!(rt; "patch {i} {value}: ")?;
+            match patch::<Q, S>(s, i, value) {
+                Ok(v) => println!(rt; "ok {v}"),
+                Err(e) => fresh(rt, e),
+            }
+        }
     }
 }
 
@@ -95,9 +68,7 @@ fn run<Q: Quote, S: RawStream>(rt: &HostRuntime, s: &mut S, turns: &[Turn]) -> i
     requires { S.RawStream.ready s.old }
 {
     for one in turns {
-        let turn = *one;
-        let reply = serve::<Q, S>(s, turn);
-        println!(rt; "{turn}: {reply}")?;
+        make::<Q, S>(rt, s, *one)?;
     }
     Ok(())
 }
@@ -118,8 +89,8 @@ pub fn in_memory(rt: &HostRuntime) -> io::Result<()> {
     println!(rt; "basis points in memory")?;
     let mut slice = [1, 0, 0xfe, 0xff, 7];
     run::<BasisPoints, MemoryStream<'_>>(rt, &mut MemoryStream::new(&mut slice, 5), &ROWS)?;
-    let after = Hex(&slice);
-    println!(rt; "  slice{after}")
+    print!(rt; "  slice")?;
+    steps::hex(rt, &slice)
 }
 
 // A put that is cut short goes on, and a refused one tells how much of the row is new.
@@ -150,8 +121,8 @@ pub fn in_trouble(rt: &HostRuntime) -> io::Result<()> {
         &mut ScriptedStream::new(&mut slice, 4, &TROUBLE),
         &CUT_SHORT,
     )?;
-    let after = Hex(&slice);
-    println!(rt; "  slice{after}")
+    print!(rt; "  slice")?;
+    steps::hex(rt, &slice)
 }
 
 // Another kind over the same rows: some bytes are no quote.
@@ -166,13 +137,13 @@ pub fn digits(rt: &HostRuntime) -> io::Result<()> {
     println!(rt; "digits in memory")?;
     let mut slice = [b'4', b'x', b'7'];
     run::<Digit, MemoryStream<'_>>(rt, &mut MemoryStream::new(&mut slice, 3), &DIGITS)?;
-    let after = Hex(&slice);
-    println!(rt; "  slice{after}")
+    print!(rt; "  slice")?;
+    steps::hex(rt, &slice)
 }
 
 fn reads(rt: &HostRuntime, row: &[u8]) -> io::Result<()> {
-    let bytes = Hex(row);
-    println!(rt; "basis points of{bytes}")?;
+    print!(rt; "basis points of")?;
+    steps::hex(rt, row)?;
     match BasisPoints::decode(row) {
         Some(v) => println!(rt; "  {v}"),
         None => println!(rt; "  none"),
@@ -182,8 +153,8 @@ fn reads(rt: &HostRuntime, row: &[u8]) -> io::Result<()> {
 fn writes(rt: &HostRuntime, value: i32) -> io::Result<()> {
     let mut row = [0xee; 2];
     let granted = BasisPoints::encode(value, &mut row);
-    let bytes = Hex(&row);
-    println!(rt; "row of {value}: {granted},{bytes}")
+    print!(rt; "row of {value}: {granted},")?;
+    steps::hex(rt, &row)
 }
 
 pub fn basis_points(rt: &HostRuntime) -> io::Result<()> {

@@ -1,7 +1,7 @@
-// Calls on a stream as a table, run one after another: each prints its call and its answer, a read the whole buffer too, to show
-// that what it does not fill stays.
-use crate::answer::{Answer, Hex};
-use std::{fmt, io};
+// Calls on a stream as a table, run one after another; each prints its answer, `ok` with what was answered or `refused` with the
+// number and the values.
+use calls::refusal::Refusal;
+use std::io;
 use stream::raw::RawStream;
 
 #[derive(Clone, Copy)]
@@ -16,61 +16,126 @@ pub enum Step {
     Limit,
 }
 
-impl fmt::Display for Step {
-    fn fmt<W: fmt::Write>(&self, f: &mut fmt::Formatter<W>) -> fmt::Result {
-        match self {
-            Step::Read(k) => write!(f, "readinto {k}"),
-            Step::Write(bytes) => {
-                let k = bytes.len();
-                write!(f, "write {k}")
-            }
-            Step::Seek(target, whence) => write!(f, "seek {target} by {whence}"),
-            Step::Tell => write!(f, "tell"),
-            Step::Truncate(size) => write!(f, "truncate {size}"),
-            Step::TruncateHere => write!(f, "truncate"),
-            Step::Flush => write!(f, "flush"),
-            Step::Limit => write!(f, "limit"),
-        }
+fn code(rt: &HostRuntime, e: Refusal) -> io::Result<()> {
+    match e.code() {
+        Some(code) => print!(rt; " code {code}"),
+        None => Ok(()),
     }
 }
 
-// How long the buffer is that a step hands in to be filled.
-fn room(step: Step) -> usize {
-    match step {
-        Step::Read(k) => k,
-        _ => 0,
+fn origin(rt: &HostRuntime, e: Refusal) -> io::Result<()> {
+    let Some(o) = e.origin() else {
+        return Ok(());
+    };
+    let call = o.call;
+    let position = o.position;
+    let layers = o.layers;
+    print!(rt; " call {call} at {position} layers {layers}")
+}
+
+pub fn refused(rt: &HostRuntime, e: Refusal) -> io::Result<()> {
+    let number = e.number();
+    print!(rt; "refused {number}")?;
+    code(rt, e)?;
+    origin(rt, e)?;
+    println!(rt; "")
+}
+
+// Bytes in hex.
+pub fn hex(rt: &HostRuntime, bytes: &[u8]) -> io::Result<()> {
+    for b in bytes {
+        let b = *b;
+        print!(rt; " {b:02x}")?;
+    }
+    println!(rt; "")
+}
+
+fn number(rt: &HostRuntime, r: Result<u64, Refusal>) -> io::Result<()> {
+    match r {
+        Ok(n) => println!(rt; "ok {n}"),
+        Err(e) => refused(rt, e),
     }
 }
 
-fn answer<S: RawStream>(s: &mut S, step: Step, buf: &mut [u8]) -> Answer
+pub fn done(rt: &HostRuntime, r: Result<(), Refusal>) -> io::Result<()> {
+    match r {
+        Ok(()) => println!(rt; "ok"),
+        Err(e) => refused(rt, e),
+    }
+}
+
+fn seek<S: RawStream>(rt: &HostRuntime, s: &mut S, target: i64, whence: i32) -> io::Result<()>
     requires { S.RawStream.ready s.old }
     ensures { S.RawStream.ready s.new }
 {
-    match step {
-        Step::Read(_) => Answer::count(s.readinto(buf)),
-        Step::Write(bytes) => Answer::count(s.write(bytes)),
-        Step::Seek(target, whence) => Answer::number(s.seek(target, whence)),
-        Step::Tell => Answer::number(s.tell()),
-        Step::Truncate(size) => Answer::number(s.truncate(Some(size))),
-        Step::TruncateHere => Answer::number(s.truncate(None)),
-        Step::Flush => Answer::done(s.flush()),
-        Step::Limit => Answer::Limit(s.limit()),
+    print!(rt; "seek {target} by {whence}: ")?;
+    number(rt, s.seek(target, whence))
+}
+
+// Prints the whole buffer, to show that what a read does not fill stays.
+fn read<S: RawStream>(rt: &HostRuntime, s: &mut S, buf: &mut [u8]) -> io::Result<()>
+    requires { S.RawStream.ready s.old }
+    ensures { S.RawStream.ready s.new }
+{
+    let k = buf.len();
+    print!(rt; "readinto {k}: ")?;
+    match s.readinto(buf) {
+        Ok(n) => println!(rt; "ok {n}")?,
+        Err(e) => refused(rt, e)?,
     }
+    print!(rt; "  buffer")?;
+    hex(rt, buf)
+}
+
+fn write<S: RawStream>(rt: &HostRuntime, s: &mut S, bytes: &[u8]) -> io::Result<()>
+    requires { S.RawStream.ready s.old }
+    ensures { S.RawStream.ready s.new }
+{
+    let k = bytes.len();
+    print!(rt; "write {k}: ")?;
+    match s.write(bytes) {
+        Ok(n) => println!(rt; "ok {n}"),
+        Err(e) => refused(rt, e),
+    }
+}
+
+fn truncate<S: RawStream>(rt: &HostRuntime, s: &mut S, size: Option<i64>) -> io::Result<()>
+    requires { S.RawStream.ready s.old }
+    ensures { S.RawStream.ready s.new }
+{
+    match size {
+        Some(n) => print!(rt; "truncate {n}: ")?,
+        None => print!(rt; "truncate: ")?,
+    }
+    number(rt, s.truncate(size))
 }
 
 fn make<S: RawStream>(rt: &HostRuntime, s: &mut S, step: Step) -> io::Result<()>
     requires { S.RawStream.ready s.old }
     ensures { S.RawStream.ready s.new }
 {
-    let mut table = [0xeeu8; 8];
-    let buf = &mut table[0..room(step).min(8)];
-    let answer = answer(s, step, buf);
-    println!(rt; "{step}: {answer}")?;
-    if buf.is_empty() {
-        return Ok(());
+    match step {
+        Step::Read(k) => {
+            let mut buf = [0xeeu8; 8];
+            read(rt, s, &mut buf[0..k.min(8)])
+        }
+        Step::Write(bytes) => write(rt, s, bytes),
+        Step::Seek(target, whence) => seek(rt, s, target, whence),
+        Step::Tell => {
+            print!(rt; "tell: ")?;
+            number(rt, s.tell())
+        }
+        Step::Truncate(size) => truncate(rt, s, Some(size)),
+        Step::TruncateHere => truncate(rt, s, None),
+        Step::Flush => {
+            print!(rt; "flush: ")?;
+            done(rt, s.flush())
+        }
+        Step::Limit => {
+            let limit = s.limit();
+            println!(rt; "limit: {limit}")
+        }
     }
-    let filled = Hex(buf);
-    println!(rt; "  buffer{filled}")
 }
 
 pub fn run<S: RawStream>(rt: &HostRuntime, s: &mut S, steps: &[Step]) -> io::Result<()>

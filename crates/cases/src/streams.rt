@@ -1,5 +1,4 @@
 // The worked cases of streams.
-use crate::answer::Answer;
 use crate::steps;
 use crate::steps::Step;
 use calls::sizes::buffer_size;
@@ -70,29 +69,22 @@ pub fn in_memory(rt: &HostRuntime) -> io::Result<()> {
     steps::run(rt, &mut MemoryStream::new(&mut slice, 8), &GAP)
 }
 
-// A header as long as the stream's limit may be skipped, and no longer one.
-pub fn checked(rt: &HostRuntime) -> io::Result<()> {
+pub fn behind_header(rt: &HostRuntime) -> io::Result<()> {
     let mut slice = LETTERS;
     let memory = MemoryStream::new(&mut slice, 8);
-    let fits = Answer::done(HeaderSkip::check(&memory, 16));
-    let longer = Answer::done(HeaderSkip::check(&memory, 17));
-    println!(rt; "header of 16: {fits}")?;
-    println!(rt; "header of 17: {longer}")
-}
-
-pub fn behind_header(rt: &HostRuntime) -> io::Result<()> {
+    print!(rt; "header of 16: ")?;
+    steps::done(rt, HeaderSkip::check(&memory, 16))?;
+    print!(rt; "header of 17: ")?;
+    steps::done(rt, HeaderSkip::check(&memory, 17))?;
     println!(rt; "skip of 3")?;
-    let mut slice = LETTERS;
-    let mut s = HeaderSkip::new(MemoryStream::new(&mut slice, 8), 3);
-    steps::run(rt, &mut s, &BEHIND_HEADER)
-}
-
-// Made unchecked, a skip leaves out as much as there is.
-pub fn all_header(rt: &HostRuntime) -> io::Result<()> {
+    steps::run(rt, &mut HeaderSkip::new(memory, 3), &BEHIND_HEADER)?;
     println!(rt; "skip of 17, unchecked")?;
     let mut slice = LETTERS;
-    let mut s = HeaderSkip::new(MemoryStream::new(&mut slice, 8), 17);
-    steps::run(rt, &mut s, &ALL_HEADER)
+    steps::run(
+        rt,
+        &mut HeaderSkip::new(MemoryStream::new(&mut slice, 8), 17),
+        &ALL_HEADER,
+    )
 }
 
 // The refusal names the stream that said so.
@@ -162,8 +154,11 @@ pub fn each_kind(rt: &HostRuntime) -> io::Result<()> {
 
 pub fn sizes(rt: &HostRuntime) -> io::Result<()> {
     for size in [-5, 0, 1, 8192, 8193] {
-        let answer = Answer::count(buffer_size(size));
-        println!(rt; "buffer size {size}: {answer}")?;
+        print!(rt; "buffer size {size}: ")?;
+        match buffer_size(size) {
+            Ok(n) => println!(rt; "ok {n}")?,
+            Err(e) => steps::refused(rt, e)?,
+        }
     }
     Ok(())
 }

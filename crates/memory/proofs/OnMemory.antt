@@ -1,7 +1,6 @@
 -- The memory stream's rules, over the bytes of its slice.
-use Rattle.std.proofs.Common.{◌≡◌, ℕ, ◌+◌, ◌-◌, ◌<◌, ◌≤◌, min, max, Bool, true, false, cond, ◌⊎◌, List, [], ◌∷◌, ◌++◌, length, get_or, take, drop, replicate, ℤ, pos, ◌+ℤ◌, Some, None, Ok, Err, Option, Result, sym, refl, ap, ◌∙◌, subst, inl, inr, arith, length-append, length-drop, length-take, rules}
+use Rattle.std.proofs.Common.{◌≡◌, ℕ, ◌+◌, ◌-◌, ◌<◌, ◌≤◌, min, max, Bool, true, false, cond, List, ◌++◌, length, take, drop, replicate, ℤ, pos, ◌+ℤ◌, Some, None, Ok, Err, Option, Result, sym, refl, ap, ◌∙◌, subst, inl, inr, arith, length-take, rules}
 use borrow.Rule.Slice.PartMut.{put_mid}
-use lib.ListN.{length-replicate}
 use Rattle.std.proofs.lemmas.Bool.Decides.{nat_tests}
 use Rattle.std.specs.Option.{ok_or}
 use Rattle.std.proofs.lemmas.List.{places, ext_get_or, take_all}
@@ -12,7 +11,7 @@ use Rattle.calls.specs.declared.refusal.Refusal.{Refusal}
 use Rattle.calls.specs.declared.refusal.Refusal.TheVariants.{BadWhence, OutOfRange, PastLimit}
 use Rattle.calls.specs.declared.refusal.Whence.{Whence}
 use Rattle.calls.specs.Refusal.{own}
-use Rattle.stream.specs.Stream.{Stream, Pile, Kept, Read, Wrote, Cut, laid, resized, At, Sound, Leaves, Refused, Outside, SeekBy, Tell, Flush, Whole, left, origin}
+use Rattle.stream.specs.Stream.{Stream, Pile, Read, Wrote, Cut, laid, resized, Sound, Leaves, Refused, Outside, SeekBy, Tell, Flush, Whole, left, origin}
 use Rattle.stream.proofs.Bytes.{get_or-laid, size_laid}
 use Rattle.calls.specs.Places.{within}
 use Rattle.stream.specs.Answers.{all_read, all_written, seek_answer}

@@ -1,7 +1,7 @@
 // A kind of quote: rows of one width, each the bytes of a value.
 ghost use Rattle.std.specs.Prelude.{◌≡◌, ℕ, ◌<◌, ◌≤◌, ◌&&◌, List, length, ℤ, is_some, if◌then◌else◌, Some, Option as Maybe, ◌==◌};
 ghost use Rattle.std.specs.Option.{unwrap_or};
-ghost use Rattle.std.specs.List.{AllByRecursion as All};
+ghost use Rattle.std.specs.List.{AllByRecursion};
 
 pub trait Quote {
     // The width of a row in bytes.
@@ -33,5 +33,5 @@ pub trait Quote {
     ghost back: { (z : ℤ) (row : List ℕ) → writes z ≡ Some row → (reads row ≡ Some z) × (length row ≡ width) };
 
     // A row that reads as a quote is the one it writes.
-    ghost only: { (z : ℤ) (row : List ℕ) → All (λ b. b < 256) row → reads row ≡ Some z → writes z ≡ Some row };
+    ghost only: { (z : ℤ) (row : List ℕ) → AllByRecursion (λ b. b < 256) row → reads row ≡ Some z → writes z ≡ Some row };
 }

@@ -1,5 +1,5 @@
 -- Laws of rows over streams: bytes read on and laid on, a row got, put, and put back.
-use Rattle.std.proofs.Common.{◌≡◌, ℕ, ◌+◌, ◌-◌, ◌*◌, ◌^◌, ◌<◌, ◌≤◌, Bool, true, false, cond, ◌&&◌, eqb, leb, ◌⊎◌, List, [], ◌∷◌, length, get_or, take, drop, ℤ, pos, ◌+ℤ◌, is_some, IsErrAnd, Some, None, Ok, Err, Option, Result, unwrap_or, sym, refl, ap, ◌∙◌, subst, inl, inr, ⊎_elim, mul-le-mul_left, arith, length-append, length-drop, length-take, w32, w64, Fits, SFits, to_z, of_z, rules}
+use Rattle.std.proofs.Common.{◌≡◌, ℕ, ◌+◌, ◌-◌, ◌*◌, ◌^◌, ◌<◌, ◌≤◌, Bool, true, false, cond, ◌&&◌, eqb, leb, List, [], ◌∷◌, length, get_or, take, drop, ℤ, pos, ◌+ℤ◌, is_some, IsErrAnd, Some, None, Ok, Err, Option, Result, unwrap_or, sym, refl, ap, ◌∙◌, subst, inl, inr, ⊎_elim, mul-le-mul_left, arith, length-append, length-drop, length-take, w32, w64, Fits, SFits, to_z, of_z, rules}
 use borrow.Rule.Slice.PartMut.{put_mid}
 use Rattle.std.specs.Option.{ok_or}
 use Rattle.std.proofs.lemmas.List.{append-nil, drop_all, take_all, ext_get_or, get_or-take, get_or-drop}
@@ -9,7 +9,7 @@ use Rattle.calls.specs.declared.refusal.Call.{Call}
 use Rattle.calls.specs.declared.refusal.Call.TheVariants as call
 use Rattle.calls.specs.declared.refusal.Refusal.{Refusal}
 use Rattle.calls.specs.Refusal.{notice}
-use Rattle.stream.specs.Stream.{Stream, Pile, Kept, Sound, Refused, Why, Read, Wrote, Sought, Flushed, Outside, At, laid, left}
+use Rattle.stream.specs.Stream.{Stream, Pile, Kept, Sound, Refused, Why, Read, Wrote, Sought, Flushed, Outside, At, laid}
 use Rattle.stream.specs.Steps.{Put, Got}
 use Rattle.stream.proofs.Bytes.{length-laid, get_or-laid_in}
 use Rattle.stream.proofs.Streams.{kept_refl, kept_then, why_map, in_range}

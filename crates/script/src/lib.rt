@@ -2,8 +2,7 @@
 #![tactic(auto)]
 
 ghost use Rattle.std.specs.Prelude.{◌≡◌, drop};
-ghost use Rattle.calls.specs.Refusal.{own};
-ghost use Rattle.script.specs.Script.{entries_left, judged, second, verdict};
+ghost use Rattle.script.specs.Script.{judged, second, verdict};
 
 use calls::refusal::{Call, Origin, Refusal};
 
@@ -45,15 +44,15 @@ pub struct Script<'a> {
 impl<'a> Script<'a> {
     // A script of which no entry is used.
     pub fn new(entries: &'a [Entry]) -> Script<'a>
-        ensures { entries_left result ≡ entries.now }
+        ensures { drop result.used result.entries.now ≡ entries.now }
     {
         Script { entries, used: 0 }
     }
 
     // Uses an entry, if one is left: how many bytes the call may move, or why it is refused.
     pub fn next(&mut self, call: Call, position: u64) -> Result<usize, Refusal>
-        ensures answer { result ≡ verdict (entries_left self.old) (own call position) }
-        ensures used { entries_left self.new ≡ drop 1 (entries_left self.old) }
+        ensures answer { result ≡ verdict (drop self.old.used self.old.entries.now) (record { call = call; position = position; layers = 0 }) }
+        ensures used { drop self.new.used self.new.entries.now ≡ drop 1 (drop self.old.used self.old.entries.now) }
     {
         let used = self.used;
         if used >= self.entries.len() {

@@ -1,5 +1,5 @@
 -- The header skip's rules, over the stream below.
-use Rattle.std.proofs.Common.{◌≡◌, ℕ, ◌+◌, ◌-◌, ◌^◌, ◌<◌, ◌≤◌, min, Bool, true, false, ◌||◌, eqb, ◌⊎◌, List, ◌∷◌, ◌++◌, length, get_or, take, drop, ℤ, pos, ◌+ℤ◌, Some, None, Ok, Err, MatchBool, Option, Result, sym, refl, ap, ◌∙◌, subst, inl, inr, ⊎_elim, arith, length-drop, w64, Fits, SFits, to_z, rules}
+use Rattle.std.proofs.Common.{◌≡◌, ℕ, ◌+◌, ◌-◌, ◌^◌, ◌<◌, ◌≤◌, min, Bool, true, false, ◌||◌, eqb, ◌⊎◌, List, ◌∷◌, ◌++◌, length, take, drop, ℤ, pos, ◌+ℤ◌, Some, Ok, Err, MatchBool, Option, sym, refl, ap, ◌∙◌, subst, inl, inr, ⊎_elim, arith, length-drop, w64, Fits, SFits, to_z, rules}
 use Rattle.std.proofs.lemmas.List.{get_or-drop, drop-drop}
 use Rattle.std.proofs.lemmas.Int.{ints}
 use Rattle.calls.specs.declared.refusal.Call.{Call}
@@ -10,7 +10,7 @@ use Rattle.stream.specs.Source.{Reaches, Passed, Blames}
 use Rattle.stream.specs.Stream.{Stream, Pile, Based, Piled, Kept, Sound, Still, Leaves, Refused, Why, unsteady, Read, Wrote, Cut, Flushed, SeekBy, Outside, Whole, laid, resized, At, left, origin}
 use Rattle.stream.proofs.Bytes.{drop-laid, drop-resized}
 use Rattle.stream.proofs.Refusals.{below_as, as_source}
-use Rattle.stream.proofs.Streams.{kept_refl, kept_then, piled_refl, why_map, why_deeper}
+use Rattle.stream.proofs.Streams.{kept_then, why_map, why_deeper}
 use Rattle.skip.specs.Skip.{skipped, skipped_pile, InSkip, Says}
 
 -- ── numbers ──

@@ -1,5 +1,5 @@
 -- Laws of refusals: a refusal passed on keeps its number, and names the stream that said so with one layer more.
-use Rattle.std.proofs.Common.{◌≡◌, ℕ, suc, ◌+◌, ◌%◌, ◌^◌, ◌<◌, Bool, true, false, ◌⊎◌, List, ◌∷◌, length, get_or, sym, refl, ap, ◌∙◌, subst, inl, inr, ⊎_elim, arith, rules}
+use Rattle.std.proofs.Common.{◌≡◌, ℕ, suc, ◌+◌, ◌%◌, ◌^◌, true, ◌⊎◌, List, ◌∷◌, sym, refl, ap, ◌∙◌, subst, inl, inr, ⊎_elim, arith, rules}
 use Rattle.calls.specs.declared.refusal.Call.{Call}
 use Rattle.calls.specs.declared.refusal.Call.TheVariants as call
 use Rattle.calls.specs.declared.refusal.Origin.{Origin}

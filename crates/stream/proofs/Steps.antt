@@ -1,9 +1,9 @@
 -- One call after another: the laws of bytes put and got by several calls.
-use Rattle.std.proofs.Common.{◌≡◌, ℕ, ◌+◌, ◌-◌, ◌<◌, ◌≤◌, min, true, ◌⊎◌, List, [], ◌++◌, length, get_or, take, drop, sym, refl, ap, ◌∙◌, subst, inl, inr, ⊎_elim, arith, length-append, length-drop, length-take, rules}
+use Rattle.std.proofs.Common.{◌≡◌, ℕ, ◌+◌, ◌-◌, ◌<◌, ◌≤◌, min, ◌⊎◌, List, [], ◌++◌, length, take, drop, sym, refl, ap, ◌∙◌, subst, inl, inr, ⊎_elim, arith, length-append, length-drop, length-take, rules}
 use borrow.Rule.Slice.PartMut.{put_mid}
-use Rattle.std.proofs.lemmas.List.{take_at, drop_at, append_assoc, take_all, take-take, drop-take, places, ext_get_or, take-append-drop, append-nil, drop_all, drop-drop}
+use Rattle.std.proofs.lemmas.List.{take_at, drop_at, append_assoc, take_all, take-take, drop-take, take-append-drop, append-nil, drop_all, drop-drop}
 use Rattle.std.proofs.lemmas.Bool.{cases_lt}
-use Rattle.stream.specs.Stream.{Stream, Kept, Sound, Still, Read, Wrote, laid, At, left}
+use Rattle.stream.specs.Stream.{Stream, Sound, Read, Wrote, laid, At, left}
 use Rattle.stream.specs.Steps.{Put, Got}
 use Rattle.stream.proofs.Streams.{kept_refl, kept_then}
 use Rattle.stream.proofs.Bytes.{laid_rest, at_part}

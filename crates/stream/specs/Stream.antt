@@ -1,5 +1,5 @@
 -- What a stream means: its six parts, and for each call what it may answer and what it leaves.
-use Rattle.std.specs.Prelude.{◌≡◌, ℕ, ◌+◌, ◌-◌, ◌^◌, ◌<◌, ◌≤◌, min, Bool, true, false, cond, ◌&&◌, ◌||◌, ◌⊎◌, List, [], ◌∷◌, ◌++◌, length, take, drop, replicate, ℤ, pos, negsuc, ◌+ℤ◌, ◌≤ℤ◌, Some, None, Ok, Err, MatchBool, Option, Result, ◌==◌, ◌≢◌, nat_lt, slice_index}
+use Rattle.std.specs.Prelude.{◌≡◌, ℕ, ◌+◌, ◌-◌, ◌^◌, ◌<◌, ◌≤◌, min, Bool, true, ◌&&◌, ◌||◌, ◌⊎◌, List, [], ◌∷◌, ◌++◌, length, take, drop, replicate, ℤ, pos, ◌+ℤ◌, ◌≤ℤ◌, Some, None, Ok, Err, MatchBool, Option, Result, ◌==◌, ◌≢◌, nat_lt, slice_index}
 use Rattle.calls.specs.declared.refusal.Whence.{Whence}
 use Rattle.calls.specs.declared.refusal.Whence.TheVariants.{Start, Current, End}
 use Rattle.calls.specs.declared.refusal.Call.{Call}

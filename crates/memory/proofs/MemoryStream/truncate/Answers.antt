@@ -1,4 +1,4 @@
-use Rattle.std.proofs.Common.{◌≡◌, ℕ, Some, None, Option, refl, ap}
+use Rattle.std.proofs.Common.{ℕ, Some, None, Option, refl, ap}
 use Rattle.std.specs.Option.{ok_or}
 use Rattle.calls.specs.declared.refusal.Call.TheVariants as call
 use Rattle.calls.specs.declared.refusal.Refusal.TheVariants.{OutOfRange}

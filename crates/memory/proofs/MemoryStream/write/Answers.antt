@@ -1,4 +1,4 @@
-use Rattle.std.proofs.Common.{◌≡◌, length, refl, arith, rules}
+use Rattle.std.proofs.Common.{length, refl, arith, rules}
 use Rattle.std.proofs.lemmas.Bool.Decides.{nat_tests}
 use Rattle.memory.proofs.OnMemory.{after_write, write_past, write_none, low_first, in_bytes, length-cleared}
 use Rattle.memory.proofs.MemoryStream.write.Goals as goal

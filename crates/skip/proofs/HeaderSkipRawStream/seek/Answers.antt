@@ -1,4 +1,4 @@
-use Rattle.std.proofs.Common.{◌≡◌, ℕ, ◌-◌, pos, ◌+ℤ◌, Some, None, sym, refl, ap, ◌∙◌, inl}
+use Rattle.std.proofs.Common.{ℕ, ◌-◌, pos, ◌+ℤ◌, Some, None, sym, refl, ap, ◌∙◌, inl}
 use Rattle.std.proofs.lemmas.Int.{to_z-of_z}
 use Rattle.calls.specs.Places.{whence_for}
 use Rattle.stream.specs.Stream.{Outside, origin}
