@@ -5,4 +5,4 @@ run:
 	sh scripts/run.sh
 
 test:
-	sh scripts/test.sh
+	bash scripts/test.sh

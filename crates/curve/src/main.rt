@@ -4,6 +4,7 @@
 use anyhow::anyhow;
 use curves::Ending;
 use options::Options;
+use std::process::ExitCode;
 
 mod options;
 
@@ -59,12 +60,13 @@ fn start(rt: &HostRuntime) -> anyhow::Result<()> {
     Ok(())
 }
 
-fn main(rt: HostRuntime) -> anyhow::Result<()> {
+// A refusal is one line on standard error, and status 1.
+fn main(rt: HostRuntime) -> anyhow::Result<ExitCode> {
     match start(&rt) {
-        Ok(()) => Ok(()),
+        Ok(()) => Ok(ExitCode::SUCCESS),
         Err(e) => {
             eprintln!(rt; "curve: {e}")?;
-            Err(e)
+            Ok(ExitCode::FAILURE)
         }
     }
 }
