@@ -1,14 +1,8 @@
 use Rattle.std.proofs.Common.{◌≡◌, ◌+◌, ◌-◌, min, length, Ok, sym, refl, ap, ◌∙◌, arith, rules}
 use Rattle.stream.proofs.Streams.{piled_refl}
 use Rattle.memory.specs.Memory.{InRoom}
-use Rattle.memory.proofs.OnMemory.{sound_file, read_file, read_none, left_file}
+use Rattle.memory.proofs.OnMemory.{sound_file, read_file, left_file}
 use Rattle.memory.proofs.MemoryStream.readinto.Goals as goal
-
-pub returns-then-n-eq0 : goal.returns-then-n-eq0
-returns-then-n-eq0 c =
-    let s = c.args.self.now in
-    let r = read_none s.bytes.now c.args.buf.now s.len s.pos c.min-n.result c.requires (c.min-n.ensures ∙ ap (min (length c.args.buf.now)) c.saturating_sub.ensures) c.if-n-eq0.true in
-    record { order = c.requires; leaves = r.0; rule = r.1; answer = r.2 }
 
 pub returns : goal.returns
 returns c =
