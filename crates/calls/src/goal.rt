@@ -1,18 +1,24 @@
 // The places that the arguments of a call ask for.
 ghost use Rattle.std.specs.Prelude.{◌≡◌, pos, ◌+ℤ◌};
+ghost use Rattle.std.specs.Option.{ok_or};
+ghost use Rattle.calls.specs.declared.refusal.Refusal.TheVariants.{BadWhence};
 ghost use Rattle.calls.specs.Places.{size_of, whence_for, within};
 
-use crate::refusal::Whence;
+use crate::refusal::{Refusal, Whence};
 
-// What a seek counts from, or none where the whence is not 0, 1 or 2.
-pub fn whence_of(whence: i32) -> Option<Whence>
-    ensures { result ≡ whence_for whence }
-{
-    match whence {
-        0 => Some(Whence::Start),
-        1 => Some(Whence::Current),
-        2 => Some(Whence::End),
-        _ => None,
+impl TryFrom<i32> for Whence {
+    type Error = Refusal;
+
+    ghost try_from_gives = { λ whence r. r ≡ ok_or (whence_for whence) BadWhence };
+
+    // What a seek counts from: refused by 6 where it is not 0, 1 or 2.
+    fn try_from(whence: i32) -> Result<Whence, Refusal> {
+        match whence {
+            0 => Ok(Whence::Start),
+            1 => Ok(Whence::Current),
+            2 => Ok(Whence::End),
+            _ => Err(Refusal::BadWhence),
+        }
     }
 }
 
@@ -20,11 +26,9 @@ pub fn whence_of(whence: i32) -> Option<Whence>
 pub fn goal_of(target: i64, start: u64, limit: u64) -> Option<u64>
     ensures { result ≡ within limit (target +ℤ pos start) }
 {
-    let goal = target as i128 + start as i128;
-    if goal < 0 || goal > limit as i128 {
-        return None;
-    }
-    Some(goal as u64)
+    start
+        .checked_add_signed(target)
+        .filter(|goal| *goal <= limit)
 }
 
 // The size that a truncate asks for, where it lies from 0 to the limit.

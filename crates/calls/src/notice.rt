@@ -1,18 +1,28 @@
 // What a refusal tells, and how a layer passes one on.
 ghost use Rattle.std.specs.Prelude.{◌≡◌};
-ghost use Rattle.calls.specs.Refusal.{notice, under as below, deepened};
+ghost use Rattle.calls.specs.Refusal.{notice, own as own_of, under as below, deepened};
 
-use crate::refusal::{Origin, Refusal};
+use crate::refusal::{Call, Origin, Refusal};
 
 impl Origin {
+    // A stream's own refusal of a call: at its position, with no layer above.
+    pub fn own(call: Call, position: u64) -> Origin
+        ensures { result ≡ own_of call position }
+    {
+        Origin {
+            call,
+            position,
+            layers: 0,
+        }
+    }
+
     // One layer more lies above the stream that refused.
     fn under(self) -> Origin
         ensures { result ≡ below self }
     {
         Origin {
-            call: self.call,
-            position: self.position,
             layers: self.layers.wrapping_add(1),
+            ..self
         }
     }
 }

@@ -1,6 +1,6 @@
 // Why a call was refused, and which stream said so.
 
-#[derive(Clone, Copy)]
+#[derive(Clone, Copy, Debug, PartialEq, Eq)]
 pub enum Call {
     ReadInto,
     Write,
@@ -11,7 +11,7 @@ pub enum Call {
 }
 
 // The stream that refused: its call, its position, and how many layers lie above it (wrapping).
-#[derive(Clone, Copy)]
+#[derive(Clone, Copy, Debug, PartialEq, Eq)]
 pub struct Origin {
     pub call: Call,
     pub position: u64,
@@ -19,7 +19,7 @@ pub struct Origin {
 }
 
 // A case for each reason; `notice` in specs/Refusal.antt gives each its number and its values.
-#[derive(Clone, Copy)]
+#[derive(Clone, Copy, Debug, PartialEq, Eq)]
 pub enum Refusal {
     BufferTooSmall,
     BufferTooLarge,
@@ -36,7 +36,7 @@ pub enum Refusal {
 }
 
 // What a seek counts from: the start, the position or the end of the bytes shown.
-#[derive(Clone, Copy)]
+#[derive(Clone, Copy, Debug, PartialEq, Eq)]
 pub enum Whence {
     Start,
     Current,

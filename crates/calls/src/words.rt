@@ -1,5 +1,6 @@
 // The words of a refusal.
 use crate::refusal::{Call, Refusal};
+use std::error::Error;
 use std::fmt;
 
 impl Refusal {
@@ -23,22 +24,21 @@ impl Refusal {
 
 impl fmt::Display for Call {
     fn fmt<W: fmt::Write>(&self, f: &mut fmt::Formatter<W>) -> fmt::Result {
-        let name = match self {
+        f.write_str(match self {
             Call::ReadInto => "readinto",
             Call::Write => "write",
             Call::Seek => "seek",
             Call::Tell => "tell",
             Call::Truncate => "truncate",
             Call::Flush => "flush",
-        };
-        write!(f, "{name}")
+        })
     }
 }
 
 impl fmt::Display for Refusal {
     fn fmt<W: fmt::Write>(&self, f: &mut fmt::Formatter<W>) -> fmt::Result {
-        let number = self.number();
-        let words = self.words();
-        write!(f, "{number}: {words}")
+        write!(f, "{}: {}", self.number(), self.words())
     }
 }
+
+impl Error for Refusal {}
