@@ -34,11 +34,11 @@ pub still_then : (a b c : Stream) → Sound a → Still a b → Still b c → St
 still_then a b c sound k l =
     record { kept = kept_then a b c sound k.shown_same k.kept l.kept; shown_same = l.shown_same ∙ k.shown_same; position_same = l.position_same ∙ k.position_same }
 
-pub piled_refl : (p : Pile) (s : Stream) → Based p s → Piled p p s
-piled_refl p s b = record { headers_same = refl; whole_same = refl; based = b }
+pub piled_refl : (p : Pile) → Piled p p
+piled_refl p = record { headers_same = refl; whole_same = refl }
 
-pub piled_then : (p q r : Pile) (s t : Stream) → Piled p q s → Piled q r t → Piled p r t
-piled_then p q r s t a b = record { headers_same = b.headers_same ∙ a.headers_same; whole_same = b.whole_same ∙ a.whole_same; based = b.based }
+pub piled_then : (p q r : Pile) → Piled p q → Piled q r → Piled p r
+piled_then p q r a b = record { headers_same = b.headers_same ∙ a.headers_same; whole_same = b.whole_same ∙ a.whole_same }
 
 -- ── reasons ──
 

@@ -60,16 +60,15 @@ pub record Kept (s t : Stream) : Type 0 where
   pub steady_on : s.steady ≡ true → t.steady ≡ true
   pub held_from : (p b : ℕ) → t.held p b ≡ true → (s.held p b ≡ true) ⊎ At t.shown p b
 
--- the pile below is the same, and its places are still those of the bottom stream
-pub record Piled (p q : Pile) (t : Stream) : Type 0 where
+-- the pile below is the same
+pub record Piled (p q : Pile) : Type 0 where
   pub headers_same : q.headers ≡ p.headers
   pub whole_same : q.whole ≡ p.whole
-  pub based : Based q t
 
--- what every call leaves: a stream in order, on the same pile, and a refusal that names who said so
+-- what every call leaves: the same pile, and a refusal that names who said so; that the stream is in order and its places are still
+-- those of the bottom stream are laws of every stream
 pub record Leaves {X : Type 0} (c : Call) (t : Stream) (p q : Pile) (r : Result X Refusal) : Type 0 where
-  pub sound : Sound t
-  pub piled : Piled p q t
+  pub piled : Piled p q
   pub source : Source c t.position q.places r
 
 -- ── refused ──
