@@ -1,22 +1,21 @@
 // A stream on the caller's slice.
 #![tactic(auto)]
 
-ghost use Rattle.std.specs.Prelude.{◌≡◌, ℕ, ◌+◌, ◌-◌, ◌^◌, ◌≤◌, min, ◌++◌, length, take, drop, replicate, Ok};
-ghost use Rattle.calls.specs.Places.{whence_for, size_of};
-ghost use Rattle.stream.specs.Stream.{Sound, Based, Leaves, ReadInto, Write, SeekBy, Tell, Truncate, Flush, Whole, left, origin as starts};
-ghost use Rattle.stream.specs.Answers.{all_read, all_written, seek_answer, cut_answer};
-ghost use Rattle.memory.specs.Memory.{room, file, memory, memory_pile, InMemory};
+ghost use Rattle.std.specs.Prelude.{◌≡◌, ℕ, ◌+◌, ◌-◌, ◌^◌, ◌≤◌, min, ◌++◌, length, take, drop, replicate};
+ghost use Rattle.memory.specs.Room.{room, file, InRoom};
 
-use calls::goal::{goal_of, size_of_cut, whence_of};
+use calls::goal::{goal_of, size_of_cut};
 use calls::refusal::{Call, Origin, Refusal, Whence};
 use stream::raw::RawStream;
 
-// A stream on the caller's slice, of which the first `len` bytes are shown.
+// A stream on the caller's slice, of which the first `len` bytes are shown. No heap is used, so the slice is the caller's and does
+// not grow: `len` stands beside it.
 #[derive(Drop)]
 pub struct MemoryStream<'a> {
     bytes: &'a mut [u8],
     len: usize,
     pos: usize,
+    ghost in_room: { InRoom bytes.now len pos },
 }
 
 fn capped(n: usize) -> usize
@@ -26,18 +25,26 @@ fn capped(n: usize) -> usize
 }
 
 impl<'a> MemoryStream<'a> {
+    ghost use Rattle.stream.specs.Stream.{origin as starts};
+    ghost use Rattle.memory.specs.Memory.{memory};
+
     // A stream on a slice, with the first `len` of its bytes, cut to the limit.
     pub fn new(bytes: &'a mut [u8], len: usize) -> MemoryStream<'a>
-        ensures order { InMemory result }
-        ensures made { memory result ≡ file bytes.old (min len (room bytes.old)) 0 }
+        ensures { memory result ≡ file bytes.old (min len (room bytes.old)) 0 }
     {
         let len = len.min(capped(bytes.len()));
         MemoryStream { bytes, len, pos: 0 }
     }
 
+    // The position.
+    pub fn position(&self) -> u64
+        ensures { result ≡ (memory self.now).position }
+    {
+        self.pos as u64
+    }
+
     // The place that a seek counts from.
     fn start_of(&self, origin: Whence) -> u64
-        requires { InMemory self.now }
         ensures { result ≡ starts (memory self.now) origin }
     {
         match origin {
@@ -75,42 +82,43 @@ impl<'a> MemoryStream<'a> {
         let n = buf.len();
         self.bytes[at..at + n].copy_from_slice(buf);
     }
+}
 
-    // This stream's own refusal of a call.
-    fn own(&self, call: Call) -> Origin
-        ensures { result ≡ record { call = call; position = self.now.pos; layers = 0 } }
-    {
-        Origin {
-            call,
-            position: self.pos as u64,
-            layers: 0,
-        }
-    }
+impl<'a> RawStream for MemoryStream<'a> {
+    ghost use Rattle.std.specs.Prelude.{Ok, refl};
+    ghost use Rattle.calls.specs.Places.{whence_for, size_of};
+    ghost use Rattle.stream.specs.Stream.{Leaves, ReadInto, Write, SeekBy, Tell, Truncate, Flush, Whole, left};
+    ghost use Rattle.stream.specs.Answers.{all_read, all_written, seek_answer, cut_answer};
+    ghost use Rattle.memory.specs.Memory.{memory, memory_pile};
+    ghost use Rattle.memory.specs.Room.{sound_file};
+
+    ghost view = { memory };
+
+    ghost pile = { memory_pile };
+
+    ghost sound = { λ m. sound_file m.bytes.now m.len m.pos m.in_room };
+
+    ghost based = { λ m. refl };
 
     // Reads all that fits and is left.
-    pub fn readinto(&mut self, buf: &mut [u8]) -> Result<usize, Refusal>
-        requires { InMemory self.old }
-        ensures order { InMemory self.new }
+    fn readinto(&mut self, buf: &mut [u8]) -> Result<usize, Refusal>
         ensures leaves { Leaves Call.ReadInto (memory self.new) (memory_pile self.old) (memory_pile self.new) result }
         ensures rule { ReadInto (memory self.old) (memory self.new) buf.old buf.new result }
+        ensures whole { Whole (memory_pile self.old) (memory self.old) (min (length buf.old) (left (memory self.old))) result }
         ensures answer { result ≡ all_read (memory self.old) (length buf.old) }
     {
         let pos = self.pos;
         let n = buf.len().min(self.len.saturating_sub(pos));
-        if n == 0 {
-            return Ok(0);
-        }
         self.fetch(&mut buf[..n]);
         self.pos = pos + n;
         Ok(n)
     }
 
     // Writes all, or is refused by 12.
-    pub fn write(&mut self, buf: &[u8]) -> Result<usize, Refusal>
-        requires { InMemory self.old }
-        ensures order { InMemory self.new }
+    fn write(&mut self, buf: &[u8]) -> Result<usize, Refusal>
         ensures leaves { Leaves Call.Write (memory self.new) (memory_pile self.old) (memory_pile self.new) result }
         ensures rule { Write (memory self.old) (memory self.new) buf.now result }
+        ensures whole { Whole (memory_pile self.old) (memory self.old) (length buf.now) result }
         ensures answer { result ≡ all_written (memory self.old) (length buf.now) }
     {
         let limit = capped(self.bytes.len());
@@ -118,7 +126,7 @@ impl<'a> MemoryStream<'a> {
         let len = self.len;
         let n = buf.len();
         if n > limit - pos {
-            return Err(Refusal::PastLimit(self.own(Call::Write)));
+            return Err(Refusal::PastLimit(Origin::own(Call::Write, pos as u64)));
         }
         if n == 0 {
             return Ok(0);
@@ -131,30 +139,23 @@ impl<'a> MemoryStream<'a> {
     }
 
     // Goes to the goal, or is refused by 6 or 11.
-    pub fn seek(&mut self, target: i64, whence: i32) -> Result<u64, Refusal>
-        requires { InMemory self.old }
-        ensures order { InMemory self.new }
+    fn seek(&mut self, target: i64, whence: i32) -> Result<u64, Refusal>
         ensures leaves { Leaves Call.Seek (memory self.new) (memory_pile self.old) (memory_pile self.new) result }
         ensures rule { SeekBy (memory self.old) (memory self.new) target (whence_for whence) result }
         ensures answer { result ≡ seek_answer (memory self.old) target (whence_for whence) }
     {
-        let limit = capped(self.bytes.len());
-        let Some(origin) = whence_of(whence) else {
-            return Err(Refusal::BadWhence);
+        let start = self.start_of(Whence::try_from(whence)?);
+        let Some(v) = goal_of(target, start, self.limit()) else {
+            return Err(Refusal::OutOfRange(Origin::own(Call::Seek, self.position())));
         };
-        let start = self.start_of(origin);
-        match goal_of(target, start, limit as u64) {
-            None => Err(Refusal::OutOfRange(self.own(Call::Seek))),
-            Some(v) => {
-                self.pos = v as usize;
-                Ok(v)
-            }
-        }
+        self.pos = v as usize;
+        Ok(v)
     }
 
     // Answers the position.
-    pub fn tell(&mut self) -> Result<u64, Refusal>
-        requires { InMemory self.old }
+    fn tell(&mut self) -> Result<u64, Refusal>
+        ensures leaves { Leaves Call.Tell (memory self.new) (memory_pile self.old) (memory_pile self.new) result }
+        ensures rule { Tell (memory self.old) (memory self.new) result }
         ensures same { self.new ≡ self.old }
         ensures answer { result ≡ Ok (memory self.old).position }
     {
@@ -162,82 +163,32 @@ impl<'a> MemoryStream<'a> {
     }
 
     // Cuts or lengthens to the size, or is refused by 11.
-    pub fn truncate(&mut self, size: Option<i64>) -> Result<u64, Refusal>
-        requires { InMemory self.old }
-        ensures order { InMemory self.new }
+    fn truncate(&mut self, size: Option<i64>) -> Result<u64, Refusal>
         ensures leaves { Leaves Call.Truncate (memory self.new) (memory_pile self.old) (memory_pile self.new) result }
         ensures rule { Truncate (memory self.old) (memory self.new) (size_of (memory self.old).position size) result }
         ensures answer { result ≡ cut_answer (memory self.old) size }
     {
-        let limit = capped(self.bytes.len());
-        let len = self.len;
-        match size_of_cut(size, self.pos as u64, limit as u64) {
-            None => Err(Refusal::OutOfRange(self.own(Call::Truncate))),
-            Some(v) => {
-                let n = v as usize;
-                self.clear(len.min(n), n);
-                self.len = n;
-                Ok(v)
-            }
-        }
+        let Some(v) = size_of_cut(size, self.position(), self.limit()) else {
+            return Err(Refusal::OutOfRange(Origin::own(Call::Truncate, self.position())));
+        };
+        let n = v as usize;
+        self.clear(self.len.min(n), n);
+        self.len = n;
+        Ok(v)
     }
 
     // All is stored already.
-    pub fn flush(&mut self) -> Result<(), Refusal>
-        requires { InMemory self.old }
+    fn flush(&mut self) -> Result<(), Refusal>
+        ensures leaves { Leaves Call.Flush (memory self.new) (memory_pile self.old) (memory_pile self.new) result }
+        ensures rule { Flush (memory self.old) (memory self.new) result }
         ensures same { self.new ≡ self.old }
         ensures answer { result ≡ Ok tt }
     {
         Ok(())
     }
 
-    // The position.
-    pub fn position(&self) -> u64
-        ensures { result ≡ (memory self.now).position }
-    {
-        self.pos as u64
-    }
-
     // The slice's length, capped at 2^62.
-    pub fn limit(&self) -> u64
-        ensures { result ≡ (memory self.now).limit }
-    {
-        capped(self.bytes.len()) as u64
-    }
-}
-
-impl<'a> RawStream for MemoryStream<'a> {
-    ghost view = { memory };
-
-    ghost pile = { memory_pile };
-
-    ghost ready = { InMemory };
-
-    fn readinto(&mut self, buf: &mut [u8]) -> Result<usize, Refusal> {
-        MemoryStream::readinto(self, buf)
-    }
-
-    fn write(&mut self, buf: &[u8]) -> Result<usize, Refusal> {
-        MemoryStream::write(self, buf)
-    }
-
-    fn seek(&mut self, target: i64, whence: i32) -> Result<u64, Refusal> {
-        MemoryStream::seek(self, target, whence)
-    }
-
-    fn tell(&mut self) -> Result<u64, Refusal> {
-        MemoryStream::tell(self)
-    }
-
-    fn truncate(&mut self, size: Option<i64>) -> Result<u64, Refusal> {
-        MemoryStream::truncate(self, size)
-    }
-
-    fn flush(&mut self) -> Result<(), Refusal> {
-        MemoryStream::flush(self)
-    }
-
     fn limit(&self) -> u64 {
-        MemoryStream::limit(self)
+        capped(self.bytes.len()) as u64
     }
 }

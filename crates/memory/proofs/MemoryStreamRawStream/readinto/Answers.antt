@@ -1,13 +1,9 @@
-use Rattle.std.proofs.Common.{length}
-use Rattle.memory.specs.Memory.{memory, memory_pile}
-use Rattle.memory.proofs.OnMemory.{whole_read}
+use Rattle.std.proofs.Common.{◌≡◌, ◌-◌, min, length, ap, ◌∙◌, rules}
+use Rattle.memory.proofs.OnMemory.{read_file}
 use Rattle.memory.proofs.MemoryStreamRawStream.readinto.Goals as goal
 
-pub readinto-requires : goal.readinto-requires
-readinto-requires c = c.requires
-
-pub returns : goal.returns
-returns c =
+pub returns-clause-rule : goal.returns-clause-rule
+returns-clause-rule c =
     let s = c.args.self.now in
-    let e = c.readinto.ensures in
-    record { order = e.order; leaves = e.leaves; rule = e.rule; whole = whole_read (memory_pile s) (memory s) (length c.args.buf.now) c.readinto.result e.answer }
+    let n : c.min-n.result ≡ min (length c.args.buf.now) (s.len - s.pos) = c.min-n.ensures ∙ ap (min (length c.args.buf.now)) c.saturating_sub.ensures in
+    read_file s.bytes.now _ _ s.len s.pos _ s.in_room n (search rules)

@@ -1,13 +1,8 @@
-use Rattle.std.proofs.Common.{length}
-use Rattle.memory.specs.Memory.{memory, memory_pile}
-use Rattle.memory.proofs.OnMemory.{whole_write}
+use Rattle.std.proofs.Common.{arith, rules}
+use Rattle.memory.proofs.OnMemory.{after_write}
 use Rattle.memory.proofs.MemoryStreamRawStream.write.Goals as goal
 
-pub write-requires : goal.write-requires
-write-requires c = c.requires
-
-pub returns : goal.returns
-returns c =
+pub returns-clause-rule : goal.returns-clause-rule
+returns-clause-rule c =
     let s = c.args.self.now in
-    let e = c.write.ensures in
-    record { order = e.order; leaves = e.leaves; rule = e.rule; whole = whole_write (memory_pile s) (memory s) (length c.args.buf.now) c.write.result e.answer }
+    after_write s.bytes.now _ _ c.args.buf.now s.len s.pos c.min.result c.max-self.result s.in_room (omega (arith, s.in_room.place_fits)) (search rules) c.min.ensures c.clear.ensures.bytes c.lay.ensures.bytes c.max-self.ensures
