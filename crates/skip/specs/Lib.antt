@@ -1,1 +1,3 @@
 pub mod Skip
+pub mod InOrder
+pub mod Layer

@@ -7,8 +7,7 @@ use Rattle.calls.specs.declared.refusal.Whence.{Whence}
 use Rattle.calls.specs.declared.refusal.Whence.TheVariants.{End}
 use Rattle.calls.specs.Refusal.{notice, own}
 use Rattle.stream.specs.Source.{Blames, Passed}
-use Rattle.stream.specs.Stream.{Stream, Pile, Sound, Based, Sought, Refused, Kept, origin}
-use Rattle.skip.specs.declared.HeaderSkip.{HeaderSkip}
+use Rattle.stream.specs.Stream.{Stream, Pile, Sought, Refused, Kept, origin}
 
 abbrev pub skipped : Stream → ℕ → ℕ → Stream
 skipped below h place = record { shown = drop h below.shown; position = place; limit = below.limit - h; stored = drop h below.stored; held = λ p b. below.held (h + p) b; steady = below.steady }
@@ -17,21 +16,9 @@ abbrev pub skipped_pile : Stream → Pile → ℕ → Pile
 skipped_pile below under h = record { headers = under.headers + h; bottom = under.bottom; places = below.position ∷ under.places; whole = under.whole }
 
 -- the header and the position lie within the limit
-pub record InSkip (below : Stream) (under : Pile) (h place : ℕ) : Type 0 where
-  pub sound : Sound below
-  pub based : Based under below
+pub record InSkip (below : Stream) (h place : ℕ) : Type 0 where
   pub head_fits : h ≤ below.limit
   pub place_fits : place ≤ below.limit - h
-
--- the same, of the layer itself
-abbrev pub skipping : {S : Type 0} → (S → Stream) → HeaderSkip S → Stream
-skipping view s = skipped (view s.raw) s.head s.pos
-
-abbrev pub skipping_pile : {S : Type 0} → (S → Stream) → (S → Pile) → HeaderSkip S → Pile
-skipping_pile view pile s = skipped_pile (view s.raw) (pile s.raw) s.head
-
-abbrev pub SkipReady : {S : Type 0} → (S → Type 0) → (S → Stream) → (S → Pile) → HeaderSkip S → Type 0
-SkipReady ready view pile s = ready s.raw × InSkip (view s.raw) (pile s.raw) s.head s.pos
 
 -- 11 and 12 are this layer's own; any other refusal came from below with one layer more
 abbrev pub Says : {X : Type 0} → Call → ℕ → List ℕ → Result X Refusal → Type 0

@@ -1,12 +1,12 @@
 -- Laws of refusals: a refusal passed on keeps its number, and names the stream that said so with one layer more.
-use Rattle.std.proofs.Common.{◌≡◌, ℕ, suc, ◌+◌, ◌%◌, ◌^◌, true, ◌⊎◌, List, ◌∷◌, sym, refl, ap, ◌∙◌, subst, inl, inr, ⊎_elim, arith, rules}
+use Rattle.std.proofs.Common.{Ok, Err, Result, MatchResult, IsErrAnd, ◌≡◌, ℕ, suc, ◌+◌, ◌%◌, ◌^◌, true, ◌⊎◌, List, ◌∷◌, sym, refl, ap, ◌∙◌, subst, inl, inr, ⊎_elim, arith, rules}
 use Rattle.calls.specs.declared.refusal.Call.{Call}
 use Rattle.calls.specs.declared.refusal.Call.TheVariants as call
 use Rattle.calls.specs.declared.refusal.Origin.{Origin}
 use Rattle.calls.specs.declared.refusal.Refusal.{Refusal}
 use Rattle.calls.specs.declared.refusal.Refusal.TheVariants.{BufferTooSmall, BufferTooLarge, HeaderTooLong, BadReadSize, ShortBuffer, BadWhence, NotNow, BadCount, BadPosition, Fault, OutOfRange, PastLimit}
 use Rattle.calls.specs.Refusal.{notice, own, under, deepened}
-use Rattle.stream.specs.Source.{settles, Reaches, Passed, Blames}
+use Rattle.stream.specs.Source.{settles, Reaches, Passed, Blames, Source, FromBelow}
 
 pub number-deepened : (e : Refusal) → (notice (deepened e)).number ≡ (notice e).number
 number-deepened BufferTooSmall = refl
@@ -87,9 +87,28 @@ lift a d at places h o (inr p) =
 pub pass_up : (a d : Call) (at : ℕ) (places : List ℕ) (e e' : Refusal) → Reaches a d → Blames (λ o. (o ≡ own d at) ⊎ Passed d places o) e → e' ≡ deepened e → Blames (λ o. Passed a (at ∷ places) o) e'
 pass_up a d at places e e' h b is = rw is (blames_deepened (λ o. (o ≡ own d at) ⊎ Passed d places o) (λ o. Passed a (at ∷ places) o) (lift a d at places h) e b)
 
+-- an answer from below with the refusal one layer deeper
+abbrev pub Deepens : {X : Type 0} → Result X Refusal → Result X Refusal → Type 0
+Deepens r r' = MatchResult r (λ x. r' ≡ Ok x) (λ e. IsErrAnd r' (λ e'. e' ≡ deepened e))
+
+pub granted_up : {X : Type 0} (r : Result X Refusal) (v : X) → Deepens r (Ok v) → r ≡ Ok v
+granted_up (Ok x) v d = sym d
+granted_up (Err e) v d = elim d [ ]
+
+-- the answer of the next stream below, as this layer passes it on
+pub passed_up : {X : Type 0} (a d : Call) (at : ℕ) (places : List ℕ) (r r' : Result X Refusal) → Reaches a d → Source d at places r → Deepens r r' → FromBelow a (at ∷ places) r'
+passed_up a d at places (Ok x) r' h s is = subst (λ r'. FromBelow a (at ∷ places) r') (sym is) tt
+passed_up a d at places (Err e) (Ok y) h s is = elim is [ ]
+passed_up a d at places (Err e) (Err e') h s is = pass_up a d at places e e' h s is
+
 -- what came from below is a source
 pub as_source : (a : Call) (at : ℕ) (places : List ℕ) (e : Refusal) → Blames (λ o. Passed a places o) e → Blames (λ o. (o ≡ own a at) ⊎ Passed a places o) e
 as_source a at places e b = blames_map (λ o. Passed a places o) (λ o. (o ≡ own a at) ⊎ Passed a places o) (λ o p. inr p) e b
+
+-- what `?` hands on
+pub residual : {X : Type 0} (r : Result X Refusal) (e : Refusal) → IsErrAnd r (λ x. x ≡ e) → r ≡ Err e
+residual (Ok x) e h = elim h [ ]
+residual (Err x) e h = ap Err h
 
 -- a refusal from below of one call, as one of a call that reaches it
 pub below_as : (a d : Call) (places : List ℕ) (e : Refusal) → Reaches a d → Blames (λ o. Passed d places o) e → Blames (λ o. Passed a places o) e
