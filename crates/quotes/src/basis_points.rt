@@ -5,28 +5,13 @@ ghost use Rattle.std.proofs.Common.{rules};
 
 use crate::quote::Quote;
 
-#[derive(Clone, Copy)]
+#[derive(Clone, Copy, Debug, PartialEq, Eq)]
 pub struct BasisPoints;
-
-// The two bytes of a value from -32768 to 32767.
-fn two_bytes(value: i32) -> Option<[u8; 2]>
-    ensures { result ≡ bps_row value }
-{
-    if value < -32768 || value > 32767 {
-        return None;
-    }
-    let bits = if value < 0 {
-        (value + 65536) as u32
-    } else {
-        value as u32
-    };
-    Some([(bits % 256) as u8, (bits / 256) as u8])
-}
 
 impl Quote for BasisPoints {
     const WIDTH: usize = 2;
 
-    ghost width = { 2 };
+    ghost WIDTH = { 2 };
 
     ghost reads = { bps_read };
 
@@ -38,30 +23,14 @@ impl Quote for BasisPoints {
 
     ghost only = { Prim.search rules };
 
-    fn row_len() -> usize {
-        Self::WIDTH
-    }
+    type Row = [u8; 2];
 
     fn decode(row: &[u8]) -> Option<i32> {
-        match row {
-            [lo, hi] => {
-                let bits = *lo as i32 + 256 * (*hi as i32);
-                Some(if bits < 32768 { bits } else { bits - 65536 })
-            }
-            _ => None,
-        }
+        let bytes = <[u8; 2]>::try_from(row).ok()?;
+        Some(i16::from_le_bytes(bytes).into())
     }
 
-    fn encode(value: i32, row: &mut [u8]) -> bool {
-        if row.len() != Self::WIDTH {
-            return false;
-        }
-        match two_bytes(value) {
-            None => false,
-            Some(bytes) => {
-                row.copy_from_slice(&bytes);
-                true
-            }
-        }
+    fn row_of(value: i32) -> Option<[u8; 2]> {
+        Some(i16::try_from(value).ok()?.to_le_bytes())
     }
 }
