@@ -5,23 +5,13 @@ ghost use Rattle.std.proofs.Common.{rules};
 
 use quotes::quote::Quote;
 
-#[derive(Clone, Copy)]
+#[derive(Clone, Copy, Debug, PartialEq, Eq)]
 pub struct Digit;
-
-// The byte of a digit.
-fn one_byte(value: i32) -> Option<[u8; 1]>
-    ensures { result ≡ digit_row value }
-{
-    if value < 0 || value > 9 {
-        return None;
-    }
-    Some([(value + 48) as u8])
-}
 
 impl Quote for Digit {
     const WIDTH: usize = 1;
 
-    ghost width = { 1 };
+    ghost WIDTH = { 1 };
 
     ghost reads = { digit_read };
 
@@ -33,32 +23,19 @@ impl Quote for Digit {
 
     ghost only = { Prim.search rules };
 
-    fn row_len() -> usize {
-        Self::WIDTH
-    }
+    type Row = [u8; 1];
 
     fn decode(row: &[u8]) -> Option<i32> {
         match row {
-            [b] => {
-                if *b < 48 || *b > 57 {
-                    return None;
-                }
-                Some(*b as i32 - 48)
-            }
+            [digit @ b'0'..=b'9'] => Some(i32::from(*digit - b'0')),
             _ => None,
         }
     }
 
-    fn encode(value: i32, row: &mut [u8]) -> bool {
-        if row.len() != Self::WIDTH {
-            return false;
-        }
-        match one_byte(value) {
-            None => false,
-            Some(bytes) => {
-                row.copy_from_slice(&bytes);
-                true
-            }
+    fn row_of(value: i32) -> Option<[u8; 1]> {
+        match value {
+            0..=9 => Some([b'0' + value as u8]),
+            _ => None,
         }
     }
 }
