@@ -1,5 +1,4 @@
 // A kind of one byte, for the cases: a decimal digit.
-ghost use Rattle.std.specs.Prelude.{◌≡◌};
 ghost use Rattle.cases.specs.Digit.{digit_read, digit_row};
 ghost use Rattle.std.proofs.Common.{rules};
 

@@ -1,5 +1,4 @@
 // Basis points: two bytes, low byte first, in two's complement.
-ghost use Rattle.std.specs.Prelude.{◌≡◌};
 ghost use Rattle.quotes.specs.BasisPoints.{bps_read, bps_row};
 ghost use Rattle.std.proofs.Common.{rules};
 
