@@ -1,78 +1,32 @@
 -- Laws of rows over streams: bytes read on and laid on, a row got, put, and put back.
-use Rattle.std.proofs.Common.{◌≡◌, ℕ, ◌+◌, ◌-◌, ◌*◌, ◌^◌, ◌<◌, ◌≤◌, Bool, true, false, cond, ◌&&◌, eqb, leb, List, [], ◌∷◌, length, get_or, take, drop, ℤ, pos, ◌+ℤ◌, is_some, IsErrAnd, Some, None, Ok, Err, Option, Result, unwrap_or, sym, refl, ap, ◌∙◌, subst, inl, inr, ⊎_elim, mul-le-mul_left, arith, length-append, length-drop, length-take, w32, w64, Fits, SFits, to_z, of_z, rules}
+use Rattle.std.proofs.Common.{◌≡◌, ℕ, ◌+◌, ◌-◌, ◌^◌, ◌<◌, ◌≤◌, true, leb, List, length, get_or, take, drop, ℤ, pos, ◌+ℤ◌, IsErrAnd, Some, None, Ok, Err, Option, Result, option_map, sym, refl, ap, ◌∙◌, subst, inl, inr, ⊎_elim, arith, length-append, length-drop, length-take, w32, w64, SFits, to_z, of_z, rules}
 use borrow.Rule.Slice.PartMut.{put_mid}
 use Rattle.std.specs.Option.{ok_or}
-use Rattle.std.proofs.lemmas.List.{append-nil, drop_all, take_all, ext_get_or, get_or-take, get_or-drop}
+use Rattle.std.proofs.lemmas.List.{take_all, ext_get_or, get_or-take, get_or-drop}
 use Rattle.std.proofs.lemmas.Int.{ints, to_z-of_z}
-use Rattle.std.proofs.lemmas.Bool.{cases_lt, cond-true, cond-false, le-leb, lt-leb, and_parts, and_from, eq-eqb, both_ways}
-use Rattle.calls.specs.declared.refusal.Call.{Call}
-use Rattle.calls.specs.declared.refusal.Call.TheVariants as call
+use Rattle.std.proofs.lemmas.Bool.{cases_lt, cond-true, le-leb}
 use Rattle.calls.specs.declared.refusal.Refusal.{Refusal}
 use Rattle.calls.specs.Refusal.{notice}
-use Rattle.stream.specs.Stream.{Stream, Pile, Kept, Sound, Refused, Why, Read, Wrote, Sought, Flushed, Outside, At, laid}
+use Rattle.stream.specs.Stream.{Stream, Kept, Sound, Refused, Why, Read, Wrote, Sought, Flushed, Outside, At, laid}
 use Rattle.stream.specs.Steps.{Put, Got}
 use Rattle.stream.proofs.Bytes.{length-laid, get_or-laid_in}
-use Rattle.stream.proofs.Streams.{kept_refl, kept_then, why_map, in_range}
-use Rattle.stream.proofs.Steps.{put_none, put_more, some_from, length_slice, got_more, left_after}
+use Rattle.stream.proofs.Streams.{kept_then, why_map, in_range}
+use Rattle.stream.proofs.Steps.{put_more, length_slice, got_more, left_after}
 use Rattle.rows.specs.declared.refusal.RowRefusal.{RowRefusal}
 use Rattle.rows.specs.declared.refusal.RowRefusal.TheVariants.{Missing, NoQuote, Unwritable, Below}
 use Rattle.rows.specs.declared.refusal.PutRefusal.{PutRefusal}
 use Rattle.rows.specs.Moves.{Filled, LayWhy, LaidOn}
-use Rattle.rows.specs.Rows.{row_at, gotten, Answered, GotRow, PutWhy, LaidAt, PutPart, PutWhole, PutRow, PatchRow, RowSaid, PutSaid}
+use Rattle.rows.specs.Rows.{row_at, gotten, Answered, GotRow, PutWhy, LaidAt, PutPart, PutWhole, PutRow, PatchRow}
 
 -- two steps, of which the second moves no byte shown
 kept_on : (a b c : Stream) → c.shown ≡ b.shown → Kept a b → Kept b c → Kept a c
 kept_on a b c same k l =
     record { limit_same = l.limit_same ∙ k.limit_same; steady_on = λ u. l.steady_on (k.steady_on u); held_from = λ p x h. ⊎_elim (λ g. ⊎_elim inl (λ at. inr (subst (λ (xs : List ℕ). At xs p x) (sym same) at)) (k.held_from p x g)) inr (l.held_from p x h) }
 
--- ── numbers ──
-
-count_bits : (n : ℕ) → n ≤ 2 ^ 62 → Fits w64 n
-count_bits n h = search rules
-
--- a row's start and end, as numbers of 64 bits
-pub start_signed : (p : ℕ) → p < 2 ^ 36 → SFits w64 (pos p)
-start_signed p small = search (ints, rules)
-
-pub end_bits : (p n width : ℕ) → p < 2 ^ 36 → n ≡ width → width ≤ 16 → Fits w64 (p + n)
-end_bits p n width small size wide = search rules
-
--- a row that ends past the limit, and one that ends within it
-pub ends_past : (p n width r limit : ℕ) → n ≡ width → r ≡ limit → r < p + n → limit < p + width
-ends_past p n width r limit size is past = omega arith
-
-pub starts_in : (p n r limit : ℕ) → r ≡ limit → p + n ≤ r → p ≤ limit
-starts_in p n r limit is le = omega arith
-
-pub some_bytes : (n m width : ℕ) → 1 ≤ width → n ≡ width → m ≡ n → 0 < m
-some_bytes n m width wide size same = omega arith
-
 -- ── bytes read on ──
 
 got_size : (s t : Stream) (buf out : List ℕ) (n : ℕ) → Got s t buf out n → length out ≡ length buf
 got_size s t buf out n g = let a = g.count_buf in let b = g.count_left in ap length g.filled ∙ simp (length-append, length-take, length-drop) (omega arith)
-
--- the row is as long as before, so what is short of it, or fills it, is so of the row handed in
-pub row_short : (s t : Stream) (buf out : List ℕ) (n : ℕ) → Filled s t buf out (Ok n) → n < length out → n < length buf
-row_short s t buf out n f h = let e = got_size s t buf out n f.0 in omega arith
-
-pub row_full : (s t : Stream) (buf out : List ℕ) (n : ℕ) → Filled s t buf out (Ok n) → length out ≤ n → length buf ≤ n
-row_full s t buf out n f h = let e = got_size s t buf out n f.0 in omega arith
-
--- the row is full
-pub fill_full : (s t : Stream) (buf mid : List ℕ) (n : ℕ) → Got s t buf mid n → length mid ≤ n → Filled s t buf mid (Ok n)
-fill_full s t buf mid n g h = let e = got_size s t buf mid n g in (g, λ short. absurd (omega arith))
-
--- a read that gives something leaves less of the row to fill, and a count of 64 bits
-pub fill_less : (s t : Stream) (buf mid : List ℕ) (n m : ℕ) → Got s t buf mid n → n < length mid → (m ≡ 0 → ⊥) → length buf - (n + m) < length buf - n
-fill_less s t buf mid n m g h some = let e = got_size s t buf mid n g in ⊎_elim (λ (z : m < 1). absurd (some (omega arith))) (λ (z : 1 ≤ m). omega arith) (cases_lt m 1)
-
-pub fill_bits : (s t u : Stream) (buf mid out : List ℕ) (n m : ℕ) → Sound s → Got s t buf mid n → Read t u (take (length mid - n) (drop n mid)) out m → Fits w64 (n + m)
-fill_bits s t u buf mid out n m sound g r =
-    let l = (got_more s t u buf mid out n m sound g r).count_left in
-    let a = sound.sized in
-    let b = sound.capped in
-    count_bits (n + m) (omega arith)
 
 -- a read that gives nothing, though the row has room: all that was left is in it
 pub fill_end : (s t u : Stream) (buf mid out : List ℕ) (n m : ℕ) → Sound s → Got s t buf mid n → Read t u (take (length mid - n) (drop n mid)) out m → m ≡ 0 →
@@ -87,10 +41,6 @@ fill_end s t u buf mid out n m sound g r z =
     let most = g.count_left in
     (subst (λ (k : ℕ). Got s u buf (put_mid n (length mid - n) mid out) k) same more, λ short. omega arith)
 
-pub fill_refused : (s t u : Stream) (buf mid out : List ℕ) (n : ℕ) (e : Refusal) → Sound s → Got s t buf mid n → Refused t u ⊥ ⊥ e → Filled s u buf out (Err e)
-fill_refused s t u buf mid out n e sound g r =
-    (kept_then s t u sound g.shown_same g.kept r.still.kept, r.still.shown_same ∙ g.shown_same, why_map ⊥ ⊥ ⊥ ⊥ t s (notice e).number g.kept.steady_on (λ x. x) (λ x. x) r.why)
-
 -- ── bytes laid on ──
 
 pub lay_more : (s t u : Stream) (row : List ℕ) (n m : ℕ) → Sound s → n ≤ length row → Put s t (take n row) → Wrote t u (take (length row - n) (drop n row)) m →
@@ -104,50 +54,18 @@ lay_more s t u row n m sound le p w =
     let k = p.kept.limit_same in
     (q.1, q.0, omega arith)
 
--- before the first write
-pub lay_none : (s : Stream) (row : List ℕ) → Put s s (take 0 row) × (0 ≤ length row) × (0 < 0 → s.position + length row ≤ s.limit)
-lay_none s row = (put_none s row, search rules, λ h. absurd (omega arith))
-
--- a write leaves less of the row to lay, and a count of 64 bits
-pub lay_less : (t u : Stream) (row : List ℕ) (n m : ℕ) → n < length row → Wrote t u (take (length row - n) (drop n row)) m → length row - (n + m) < length row - n
-lay_less t u row n m lt w =
-    let l = length_slice row n (length row) (search rules) in
-    let some = some_from t u (take (length row - n) (drop n row)) m w (omega arith) in
-    omega arith
-
-pub lay_bits : (s t u : Stream) (row : List ℕ) (n m : ℕ) → Sound s → n ≤ length row → Put s t (take n row) → Wrote t u (take (length row - n) (drop n row)) m → Fits w64 (n + m)
-lay_bits s t u row n m sound le p w =
-    let q = lay_more s t u row n m sound le p w in
-    let b = sound.capped in
-    let f = q.2 in
-    let h = q.1 in
-    count_bits (n + m) (omega arith)
-
-pub lay_refused : (s t u : Stream) (row : List ℕ) (n : ℕ) (e : Refusal) → n < length row → (0 < n → s.position + length row ≤ s.limit) → Put s t (take n row) →
-    Refused t u ⊥ (t.limit < t.position + length (take (length row - n) (drop n row))) e → LaidOn row s u (Err (record { why = Below e; fresh = n }))
-lay_refused s t u row n e lt fits p r =
-    let l = length_slice row n (length row) (search rules) in
-    let a = length-take n row in
-    let x = p.moved in
-    let k = p.kept.limit_same in
-    let past : t.limit < t.position + length (take (length row - n) (drop n row)) → s.limit < s.position + length row = λ h. omega arith in (
-      record { kept = kept_on s t u r.still.shown_same p.kept r.still.kept; shown_laid = r.still.shown_same ∙ p.shown_laid; moved = r.still.position_same ∙ x },
-      lt,
-      fits,
-      why_map ⊥ (t.limit < t.position + length (take (length row - n) (drop n row))) ⊥ (s.limit < s.position + length row) t s (notice e).number p.kept.steady_on (λ y. y) past r.why,
-    )
-
-pub lay_done : (s t : Stream) (row : List ℕ) (n : ℕ) → 0 < length row → n ≤ length row → length row ≤ n → (0 < n → s.position + length row ≤ s.limit) → Put s t (take n row) → Put s t row × (s.position + length row ≤ s.limit)
-lay_done s t row n some le ge fits p = (subst (λ (xs : List ℕ). Put s t xs) (take_all n row ge) p, fits (omega arith))
-
 -- ── what a call is passed ──
 
 -- a value, to its 32 bits and back
 abbrev passed : ℤ → ℤ
 passed value = to_z w32 (of_z w32 value)
 
-writes_passed : (writes : ℤ → Option (List ℕ)) (value : ℤ) → SFits w32 value → writes (passed value) ≡ writes value
+pub writes_passed : (writes : ℤ → Option (List ℕ)) (value : ℤ) → SFits w32 value → writes (passed value) ≡ writes value
 writes_passed writes value fits = ap writes (to_z-of_z w32 value fits)
+
+-- the row that a kind gives for a value is the one that the value writes
+pub writes_row : {R : Type 0} (writes : ℤ → Option (List ℕ)) (bytes : R → List ℕ) (value : ℤ) (o : Option R) (r : R) → SFits w32 value → option_map bytes o ≡ writes (passed value) → o ≡ Some r → writes value ≡ Some (bytes r)
+writes_row writes bytes value o r fits e is = sym (writes_passed writes value fits) ∙ sym e ∙ ap (option_map bytes) is
 
 -- ── to a row's place ──
 
@@ -167,86 +85,11 @@ not_outside p s small le out = in_range s p le (subst (λ (x : ℤ). Outside s x
 
 -- ── a row got ──
 
-gotten_missing : (reads : List ℕ → Option ℤ) (width p : ℕ) (bytes : List ℕ) → length bytes < p + width → Err Missing ≡ gotten reads width bytes p
-gotten_missing reads width p bytes h = sym (cond-false (leb (p + width) (length bytes)) (ok_or (reads (row_at bytes width p)) NoQuote) (Err Missing) (lt-leb (p + width) (length bytes) h))
-
 gotten_there : (reads : List ℕ → Option ℤ) (width p : ℕ) (bytes row : List ℕ) → p + width ≤ length bytes → row_at bytes width p ≡ row → gotten reads width bytes p ≡ ok_or (reads row) NoQuote
 gotten_there reads width p bytes row h e =
     cond-true (leb (p + width) (length bytes)) (ok_or (reads (row_at bytes width p)) NoQuote) (Err Missing) (le-leb (p + width) (length bytes) h) ∙ ap (λ (xs : List ℕ). ok_or (reads xs) NoQuote) e
 
--- the row would end past the limit
-pub get_past : (reads : List ℕ → Option ℤ) (width p : ℕ) (s : Stream) → Sound s → s.limit < p + width → GotRow reads width p s s (Err Missing)
-get_past reads width p s sound h =
-    let l = sound.sized in
-    record { kept = kept_refl s; shown_same = refl; answered = gotten_missing reads width p s.shown (omega arith); ends = tt }
-
--- the seek is refused
-pub get_unsought : (reads : List ℕ → Option ℤ) (width p : ℕ) (s t : Stream) (e : Refusal) → p < 2 ^ 36 → p ≤ s.limit → Refused s t (Outside s (goal p)) ⊥ e → GotRow reads width p s t (Err (Below e))
-get_unsought reads width p s t e small le r =
-    record { kept = r.still.kept; shown_same = r.still.shown_same; answered = why_map (Outside s (goal p)) ⊥ ⊥ ⊥ s s (notice e).number (λ u. u) (not_outside p s small le) (λ x. x) r.why; ends = tt }
-
--- a read is refused
-pub get_unread : (reads : List ℕ → Option ℤ) (width p : ℕ) (s t u : Stream) (v : ℕ) (row out : List ℕ) (e : Refusal) → Sound s → Sought s t (goal p) v → Filled t u row out (Err e) → GotRow reads width p s u (Err (Below e))
-get_unread reads width p s t u v row out e sound r (k, same, w) =
-    record { kept = kept_then s t u sound r.shown_same r.kept k; shown_same = same ∙ r.shown_same; answered = why_map ⊥ ⊥ ⊥ ⊥ t s (notice e).number r.kept.steady_on (λ x. x) (λ x. x) w; ends = tt }
-
--- the bytes end within the row
-pub get_short : (reads : List ℕ → Option ℤ) (width p : ℕ) (s t u : Stream) (v : ℕ) (row out : List ℕ) (n : ℕ) → Sound s → p < 2 ^ 36 → Sought s t (goal p) v → Filled t u row out (Ok n) → length row ≡ width → n < length row → GotRow reads width p s u (Err Missing)
-get_short reads width p s t u v row out n sound small r (g, rest) size short =
-    let at = sought_place p s t v small r in
-    let l = ap length r.shown_same in
-    let m = rest short in
-    record { kept = kept_then s t u sound r.shown_same r.kept g.kept; shown_same = g.shown_same ∙ r.shown_same; answered = gotten_missing reads width p s.shown (omega arith); ends = tt }
-
--- the whole row is read: its bytes are those shown at the place
-row_read : (width p : ℕ) (t u : Stream) (row out : List ℕ) (n : ℕ) → t.position ≡ p → Got t u row out n → 1 ≤ width → length row ≡ width → length row ≤ n →
-    (p + width ≤ length t.shown) × (row_at t.shown width p ≡ out) × (u.position ≡ p + width)
-row_read width p t u row out n at g wide size full =
-    let a = g.count_buf in
-    let b = g.count_left in
-    let m = g.moved in
-    let same : n ≡ width = omega arith in
-    let none : drop n row ≡ [] = drop_all n row full in
-    let f = g.filled in
-    let x = append-nil (take n (drop t.position t.shown)) in
-    let bytes : row_at t.shown width p ≡ out = cc in
-    (omega arith, bytes, omega arith)
-
-get_whole : (reads : List ℕ → Option ℤ) (width p : ℕ) (s t u : Stream) (v : ℕ) (row out : List ℕ) (n : ℕ) → Sound s → p < 2 ^ 36 → Sought s t (goal p) v → Filled t u row out (Ok n) → 1 ≤ width → length row ≡ width → length row ≤ n →
-    Kept s u × (u.shown ≡ s.shown) × (gotten reads width s.shown p ≡ ok_or (reads out) NoQuote) × (u.position ≡ p + width)
-get_whole reads width p s t u v row out n sound small r (g, rest) wide size full =
-    let q = row_read width p t u row out n (sought_place p s t v small r) g wide size full in
-    let there = gotten_there reads width p t.shown out q.0 q.1 in
-    (kept_then s t u sound r.shown_same r.kept g.kept, g.shown_same ∙ r.shown_same, ap (λ (xs : List ℕ). gotten reads width xs p) (sym r.shown_same) ∙ there, q.2)
-
-pub get_value : (reads : List ℕ → Option ℤ) (width p : ℕ) (s t u : Stream) (v : ℕ) (row out : List ℕ) (n : ℕ) (x : ℤ) → Sound s → p < 2 ^ 36 → Sought s t (goal p) v → Filled t u row out (Ok n) → 1 ≤ width → length row ≡ width → length row ≤ n → Some x ≡ reads out → SFits w32 x → GotRow reads width p s u (Ok (passed x))
-get_value reads width p s t u v row out n x sound small r f wide size full e fits =
-    let q = get_whole reads width p s t u v row out n sound small r f wide size full in
-    record { kept = q.0; shown_same = q.1; answered = ap Ok (to_z-of_z w32 x fits) ∙ ap (λ (o : Option ℤ). ok_or o NoQuote) e ∙ sym q.2; ends = q.3 }
-
-pub get_none : (reads : List ℕ → Option ℤ) (width p : ℕ) (s t u : Stream) (v : ℕ) (row out : List ℕ) (n : ℕ) → Sound s → p < 2 ^ 36 → Sought s t (goal p) v → Filled t u row out (Ok n) → 1 ≤ width → length row ≡ width → length row ≤ n → None ≡ reads out → GotRow reads width p s u (Err NoQuote)
-get_none reads width p s t u v row out n sound small r f wide size full e =
-    let q = get_whole reads width p s t u v row out n sound small r f wide size full in
-    record { kept = q.0; shown_same = q.1; answered = ap (λ (o : Option ℤ). ok_or o NoQuote) e ∙ sym q.2; ends = tt }
-
 -- ── a row put ──
-
-unwritten : (o : Option (List ℕ)) (row : List ℕ) (width p : ℕ) (s : Stream) (b : Bool) → length row ≡ width → b ≡ (eqb (length row) width && is_some o) → b ≡ false → PutRow o p s s (Err (record { why = Unwritable; fresh = 0 }))
-unwritten None row width p s b size said not = (refl, refl)
-unwritten (Some xs) row width p s b size said not = absurd (both_ways b not (said ∙ and_from (eqb (length row) width) true (eq-eqb (length row) width size) refl))
-
--- a row of the kind's width that was not written: the value has none
-pub put_unwritable : (writes : ℤ → Option (List ℕ)) (value : ℤ) (row : List ℕ) (width p : ℕ) (s : Stream) (b : Bool) → SFits w32 value → length row ≡ width → b ≡ (eqb (length row) width && is_some (writes (passed value))) → b ≡ false → PutRow (writes value) p s s (Err (record { why = Unwritable; fresh = 0 }))
-put_unwritable writes value row width p s b fits size said not =
-    unwritten (writes value) row width p s b size (subst (λ (o : Option (List ℕ)). b ≡ (eqb (length row) width && is_some o)) (writes_passed writes value fits) said) not
-
-some_written : (o : Option (List ℕ)) (row out : List ℕ) (width : ℕ) (b : Bool) → b ≡ (eqb (length row) width && is_some o) → out ≡ cond b (unwrap_or o row) row → b ≡ true → o ≡ Some out
-some_written None row out width b said bytes is = absurd (both_ways false refl (and_parts (eqb (length row) width) false (sym said ∙ is)).1)
-some_written (Some xs) row out width b said bytes is = ap Some (sym (bytes ∙ cond-true b xs row is))
-
--- a row that was written is the value's
-pub written : (writes : ℤ → Option (List ℕ)) (value : ℤ) (row out : List ℕ) (width : ℕ) (b : Bool) → SFits w32 value → b ≡ (eqb (length row) width && is_some (writes (passed value))) → out ≡ cond b (unwrap_or (writes (passed value)) row) row → b ≡ true → writes value ≡ Some out
-written writes value row out width b fits said bytes is = sym (writes_passed writes value fits) ∙ some_written (writes (passed value)) row out width b said bytes is
 
 -- the seek is refused
 pub put_unsought : (o : Option (List ℕ)) (row : List ℕ) (p : ℕ) (s t : Stream) (e : Refusal) → o ≡ Some row → 0 < length row → p < 2 ^ 36 → Refused s t (Outside s (goal p)) ⊥ e → PutRow o p s t (Err (record { why = Below e; fresh = 0 }))
@@ -317,18 +160,10 @@ some_granted (Some row) p s t v put f = f row refl put
 granted_row : {X : Type 0} (writes : ℤ → Option (List ℕ)) (value : ℤ) (p : ℕ) (s t : Stream) (v : Unit {0}) → SFits w32 value → PutRow (writes (passed value)) p s t (Ok v) → ((row : List ℕ) → writes value ≡ Some row → PutWhole row p s t → X) → X
 granted_row writes value p s t v fits put f = some_granted (writes value) p s t v (subst (λ (o : Option (List ℕ)). PutRow o p s t (Ok v)) (writes_passed writes value fits) put) f
 
-unput : (o : Option (List ℕ)) (value : ℤ) (p : ℕ) (s t : Stream) (x : PutRefusal) → PutRow o p s t (Err x) → PatchRow value o p s t (Err x)
-unput None value p s t x (is, same) = let q : x ≡ record { why = Unwritable; fresh = 0 } = cc in (ap Err q, same)
-unput (Some row) value p s t x q = q.0
-
--- the refusal of the put, passed on
-pub passed_on : (r : Result ℤ PutRefusal) (x : PutRefusal) → IsErrAnd r (λ y. y ≡ x) → r ≡ Err x
+-- what `?` hands on
+pub passed_on : {X : Type 0} (r : Result X PutRefusal) (x : PutRefusal) → IsErrAnd r (λ y. y ≡ x) → r ≡ Err x
 passed_on (Ok v) x h = absurd h
 passed_on (Err y) x h = ap Err h
-
-pub patch_unput : (writes : ℤ → Option (List ℕ)) (value : ℤ) (p : ℕ) (s t : Stream) (x : PutRefusal) (r : Result ℤ PutRefusal) → SFits w32 value → r ≡ Err x → PutRow (writes (passed value)) p s t (Err x) → PatchRow value (writes value) p s t r
-patch_unput writes value p s t x r fits is put =
-    subst (λ (y : Result ℤ PutRefusal). PatchRow value (writes value) p s t y) (sym is) (unput (writes value) value p s t x (subst (λ (o : Option (List ℕ)). PutRow o p s t (Err x)) (writes_passed writes value fits) put))
 
 pub patch_unflushed : (writes : ℤ → Option (List ℕ)) (value : ℤ) (n p : ℕ) (s t u : Stream) (v : Unit {0}) (e : Refusal) → SFits w32 value → ((row : List ℕ) → writes value ≡ Some row → length row ≡ n) → PutRow (writes (passed value)) p s t (Ok v) → Refused t u ⊥ ⊥ e → PatchRow value (writes value) p s u (Err (record { why = Below e; fresh = n }))
 patch_unflushed writes value n p s t u v e fits size put r =
@@ -372,42 +207,3 @@ patch_ungotten writes reads value width n p s t u w v x fits same wide back put 
     let kept = kept_on s t u fl.still.shown_same q.whole.kept fl.still.kept in
     subst (λ (o : Option (List ℕ)). PatchRow value o p s w (Err (record { why = x; fresh = n }))) (sym is)
     (patch_part row n p s t w x (k.1 ∙ sym same) q (kept_on t u w r.shown_same fl.still.kept r.kept) (r.shown_same ∙ fl.still.shown_same) (back_why reads width p (length row) s u value x there kept r.answered)))
-
--- ── who refused ──
-
--- one call more may refuse
-row_said : (c : Call) (cs : List Call) (t : Stream) (q : Pile) (x : RowRefusal) → RowSaid cs t q x → RowSaid (c ∷ cs) t q x
-row_said c cs t q Missing h = tt
-row_said c cs t q NoQuote h = tt
-row_said c cs t q Unwritable h = tt
-row_said c cs t q (Below e) h = inr h
-
-pub put_said : (c : Call) (cs : List Call) (t : Stream) (q : Pile) (r : Result (Unit {0}) PutRefusal) → PutSaid cs t q r → PutSaid (c ∷ cs) t q r
-put_said c cs t q (Ok v) h = tt
-put_said c cs t q (Err x) h = row_said c cs t q x.why h
-
--- a get's refusal, after a put and a flush
-pub got_said : (t : Stream) (q : Pile) (x : RowRefusal) → RowSaid (call.Seek ∷ (call.ReadInto ∷ [])) t q x → RowSaid (call.Seek ∷ (call.Write ∷ (call.Flush ∷ (call.ReadInto ∷ [])))) t q x
-got_said t q Missing h = tt
-got_said t q NoQuote h = tt
-got_said t q Unwritable h = tt
-got_said t q (Below e) h = ⊎_elim inl (λ k. inr (inr (inr k))) h
-
--- a put's refusal
-unput_said : (t : Stream) (q : Pile) (x : RowRefusal) → RowSaid (call.Seek ∷ (call.Write ∷ [])) t q x → RowSaid (call.Seek ∷ (call.Write ∷ (call.Flush ∷ (call.ReadInto ∷ [])))) t q x
-unput_said t q Missing h = tt
-unput_said t q NoQuote h = tt
-unput_said t q Unwritable h = tt
-unput_said t q (Below e) h = ⊎_elim inl (λ k. ⊎_elim (λ l. inr (inl l)) absurd k) h
-
-pub patch_said : (t : Stream) (q : Pile) (x : PutRefusal) (r : Result ℤ PutRefusal) → r ≡ Err x → RowSaid (call.Seek ∷ (call.Write ∷ [])) t q x.why → PutSaid (call.Seek ∷ (call.Write ∷ (call.Flush ∷ (call.ReadInto ∷ [])))) t q r
-patch_said t q x r is h = subst (λ (y : Result ℤ PutRefusal). PutSaid (call.Seek ∷ (call.Write ∷ (call.Flush ∷ (call.ReadInto ∷ [])))) t q y) (sym is) (unput_said t q x.why h)
-
--- ── the row that a call works in ──
-
--- a row of at most 16 bytes, and where row i starts
-pub row_of : (xs : List ℕ) (i n width : ℕ) → length xs ≡ 16 → i < 2 ^ 32 → n ≡ width → width ≤ 16 → (length (take (n - 0) xs) ≡ width) × (i * n < 2 ^ 36)
-row_of xs i n width size small same wide =
-    let l = length-take (n - 0) xs in
-    let m : i * n ≤ i * 16 = mul-le-mul_left i (omega arith) in
-    (omega arith, omega arith)

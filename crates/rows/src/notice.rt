@@ -3,6 +3,7 @@ ghost use Rattle.std.specs.Prelude.{◌≡◌};
 ghost use Rattle.rows.specs.Rows.{row_notice};
 
 use crate::refusal::RowRefusal;
+use std::error::Error;
 use std::fmt;
 
 impl RowRefusal {
@@ -22,10 +23,12 @@ impl RowRefusal {
 impl fmt::Display for RowRefusal {
     fn fmt<W: fmt::Write>(&self, f: &mut fmt::Formatter<W>) -> fmt::Result {
         match self {
-            RowRefusal::Missing => write!(f, "13: the row is not wholly there"),
-            RowRefusal::NoQuote => write!(f, "14: the row's bytes are no quote"),
-            RowRefusal::Unwritable => write!(f, "15: the kind cannot write this value"),
+            RowRefusal::Missing => f.write_str("13: the row is not wholly there"),
+            RowRefusal::NoQuote => f.write_str("14: the row's bytes are no quote"),
+            RowRefusal::Unwritable => f.write_str("15: the kind cannot write this value"),
             RowRefusal::Below(e) => write!(f, "{e}"),
         }
     }
 }
+
+impl Error for RowRefusal {}
