@@ -82,10 +82,6 @@ impl<'a> Script<'a> {
             return Ok(usize::MAX);
         };
         self.left = left;
-        entry.judge(Origin {
-            call,
-            position,
-            layers: 0,
-        })
+        entry.judge(Origin::own(call, position))
     }
 }

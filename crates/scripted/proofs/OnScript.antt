@@ -1,46 +1,36 @@
 -- A stream under a script: the stream's own rules, and what the script adds.
-use Rattle.std.proofs.Common.{◌≡◌, ℕ, ◌+◌, ◌-◌, ◌^◌, ◌<◌, ◌≤◌, min, Bool, true, false, cond, ◌&&◌, eqb, ltb, ◌⊎◌, List, [], ◌∷◌, ◌++◌, length, take, drop, ℤ, pos, ◌+ℤ◌, is_some, Some, None, Ok, Err, Option, Result, sym, refl, ap, ◌∙◌, subst, inl, arith, length-take, rules}
+use Rattle.std.proofs.Common.{◌≡◌, ℕ, ◌+◌, ◌-◌, ◌^◌, ◌<◌, ◌≤◌, min, Bool, true, false, cond, eqb, ◌⊎◌, List, [], ◌∷◌, ◌++◌, length, take, drop, IsErrAnd, Ok, Err, Result, sym, refl, ap, ◌∙◌, subst, inl, arith, length-take, rules}
 use Rattle.std.proofs.lemmas.List.{places, ext_get_or, take-take, take-append-drop}
 use Rattle.std.proofs.lemmas.Bool.{and_parts}
 use Rattle.std.proofs.lemmas.Bool.Decides.{nat_tests}
-use Rattle.std.specs.Option.{ok_or}
 use Rattle.calls.specs.declared.refusal.Call.{Call}
 use Rattle.calls.specs.declared.refusal.Call.TheVariants as call
 use Rattle.calls.specs.declared.refusal.Origin.{Origin}
-use Rattle.calls.specs.declared.refusal.Whence.{Whence}
-use Rattle.calls.specs.declared.refusal.Whence.TheVariants.{Start, Current, End}
 use Rattle.calls.specs.declared.refusal.Refusal.{Refusal}
-use Rattle.calls.specs.declared.refusal.Refusal.TheVariants.{BadWhence, NotNow, Fault, OutOfRange, PastLimit}
+use Rattle.calls.specs.declared.refusal.Refusal.TheVariants.{NotNow}
 use Rattle.calls.specs.Refusal.{notice, own}
 use Rattle.stream.specs.Source.{Blames, Passed}
 use Rattle.stream.specs.Stream as st
 use Rattle.stream.specs.Stream.{Stream, Pile, Sound, Leaves, Kept, Still, Refused, Unmoved, Why, Outside, laid}
-use Rattle.calls.specs.Places.{within}
-use Rattle.stream.specs.Answers.{all_read, all_written, seek_answer}
-use Rattle.stream.proofs.Refusals.{blames_map}
-use Rattle.stream.proofs.Streams.{still_refl, why_map, test_at}
+use Rattle.stream.proofs.Refusals.{blames_map, residual}
+use Rattle.stream.proofs.Streams.{why_map}
 use Rattle.memory.specs.declared.MemoryStream.{MemoryStream}
-use Rattle.memory.specs.Memory.{memory, memory_pile, InMemory}
-use Rattle.memory.proofs.OnMemory.{sound_file}
+use Rattle.memory.specs.Memory.{memory, memory_pile}
 use Rattle.script.specs.declared.Entry.{Entry}
-use Rattle.script.specs.Script.{second, verdict, grants}
-use Rattle.scripted.specs.Scripted.{under, cut_short, granting, at_most}
+use Rattle.script.specs.declared.Entry.TheVariants as entry
+use Rattle.script.specs.Script.{second, judged, verdict, moves, grants}
+use Rattle.scripted.specs.Scripted.{under, cut_short}
 
 -- ── the script ──
 
 grants_on : (es : List Entry) → grants es ≡ true → grants (drop 1 es) ≡ true
 grants_on [] g = g
-grants_on (e ∷ es) g = (and_parts (ltb 0 e.n) (grants es) (and_parts (eqb e.kind 0) (ltb 0 e.n && grants es) g).1).1
+grants_on (e ∷ es) g = (and_parts (moves e) (grants es) g).1
 
 -- a call that is granted may move a byte at least
 pub most_some : (es : List Entry) (o : Origin) (n : ℕ) → Ok n ≡ verdict es o → 0 < n
 most_some [] o n e = let z : n ≡ 2 ^ 64 - 1 = cc in omega arith
 most_some (x ∷ es) o n e = grind (arith, nat_tests)
-
--- one that is refused is not steady
-never_steady : (es : List Entry) (o : Origin) (e : Refusal) → Err e ≡ verdict es o → grants es ≡ true → ⊥
-never_steady [] o e is g = let z : ◌≡◌ {A = ℕ} 0 1 = cc in omega arith
-never_steady (x ∷ es) o e is g = grind (arith, nat_tests)
 
 -- a script's refusal: by a number of a stream that is not steady, and from the origin given
 abbrev Fair : Type 0 → Type 0 → Stream → Origin → Result ℕ Refusal → Type 0
@@ -59,11 +49,15 @@ fair_cond : (R P : Type 0) (s : Stream) (o : Origin) (b : Bool) (x y : Result �
 fair_cond R P s o true x y f g = f
 fair_cond R P s o false x y f g = g
 
+fair_judged : (R P : Type 0) (s : Stream) (e : Entry) (o : Origin) → Fair R P s o (judged e o)
+fair_judged R P s (entry.AtMost n) o = fair_cond R P s o (eqb n 0) (Err (NotNow o)) (Ok n) (λ u. u, refl) tt
+fair_judged R P s entry.NotNow o = (λ u. u, refl)
+fair_judged R P s (entry.Bad n) o = fair_second R P s o n o.call
+fair_judged R P s (entry.Fault n) o = (λ u. u, refl)
+
 fair_verdict : (R P : Type 0) (s : Stream) (o : Origin) (es : List Entry) → Fair R P s o (verdict es o)
 fair_verdict R P s o [] = tt
-fair_verdict R P s o (e ∷ es) =
-    fair_cond R P s o (eqb e.kind 0) _ _ (fair_cond R P s o (eqb e.n 0) (Err (NotNow o)) (Ok e.n) (λ u. u, refl) tt)
-    (fair_cond R P s o (eqb e.kind 1) (Err (NotNow o)) _ (λ u. u, refl) (fair_cond R P s o (eqb e.kind 2) (Err (second o e.n o.call)) (Err (Fault o e.n)) (fair_second R P s o e.n o.call) (λ u. u, refl)))
+fair_verdict R P s o (e ∷ es) = fair_judged R P s e o
 
 -- ── what a stream keeps under a script ──
 
@@ -73,45 +67,21 @@ kept_under s t es fs used k = record { limit_same = k.limit_same; steady_on = λ
 still_under : (s t : Stream) (es fs : List Entry) → fs ≡ drop 1 es → Still s t → Still (under es s) (under fs t)
 still_under s t es fs used k = record { kept = kept_under s t es fs used k.kept; shown_same = k.shown_same; position_same = k.position_same }
 
-pub unmoved_under : (s : Stream) (es fs : List Entry) → fs ≡ drop 1 es → Unmoved (under es s) (under fs s)
-unmoved_under s es fs used = record { still = still_under s s es fs used (still_refl s); stored_same = refl; held_same = λ p b. refl }
-
 -- a refusal of a stream that is always steady
 refused_under : (R P Q : Type 0) (s t : Stream) (es fs : List Entry) (e : Refusal) → s.steady ≡ true → (P → Q) → fs ≡ drop 1 es → Refused s t R P e → Refused (under es s) (under fs t) R Q e
 refused_under R P Q s t es fs e u f used r = record { still = still_under s t es fs used r.still; why = why_map R P R Q s (under es s) (notice e).number (λ _. u) (λ x. x) f r.why }
 
-sound_under : (s : Stream) (es : List Entry) → Sound s → Sound (under es s)
-sound_under s es k = record { capped = k.capped; placed = k.placed; sized = k.sized; showing = k.showing; storing = k.storing }
-
-pub leaves_under : {X : Type 0} (c : Call) (t : Stream) (p q : Pile) (fs : List Entry) (r : Result X Refusal) → Leaves c t p q r → Leaves c (under fs t) (cut_short p) (cut_short q) r
-leaves_under c t p q fs r k = record { sound = sound_under t fs k.sound; piled = record { headers_same = k.piled.headers_same; whole_same = refl; based = k.piled.based }; source = k.source }
-
 -- ── a call that the script refuses ──
 
--- the script's refusal names this stream and moves nothing
-pub script_refuses : {X : Type 0} (R P : Type 0) (c : Call) (m : MemoryStream) (es fs : List Entry) (at : ℕ) (e : Refusal) (f : ℕ → Result X Refusal) → InMemory m → at ≡ m.pos → fs ≡ drop 1 es → Err e ≡ verdict es (own c at) →
-    Leaves {X = X} c (under fs (memory m)) (cut_short (memory_pile m)) (cut_short (memory_pile m)) (Err e) × Refused (under es (memory m)) (under fs (memory m)) R P e × (Err e ≡ granting (verdict es (own c m.pos)) f)
-script_refuses {X} R P c m es fs at e f ok here used is =
-    let s = memory m in
+-- the script's refusal names this stream
+pub refused_leaves : {X : Type 0} (c : Call) (m n : MemoryStream) (es fs : List Entry) (e : Refusal) (r : Result X Refusal) → n ≡ m → Err e ≡ verdict es (own c m.pos) → IsErrAnd r (λ x. x ≡ e) →
+    Leaves {X = X} c (under fs (memory n)) (cut_short (memory_pile m)) (cut_short (memory_pile n)) r
+refused_leaves c m n es fs e r same is out =
     let o = own c m.pos in
-    let v : Err e ≡ verdict es o = is ∙ ap (λ (n : ℕ). verdict es (own c n)) here in
-    let fair : Fair R P (under es s) o (Err e) = subst (Fair R P (under es s) o) (sym v) (fair_verdict R P (under es s) o es) in (
-      record { sound = sound_under s fs (sound_file _ _ _ ok); piled = record { headers_same = refl; whole_same = refl; based = refl }; source = blames_map (λ x. x ≡ o) (λ x. (x ≡ o) ⊎ Passed c [] x) (λ x h. inl h) e fair.1 },
-      record { still = still_under s s es fs used (still_refl s); why = fair.0 (never_steady es o e v) },
-      ap (λ (w : Result ℕ Refusal). granting {X = X} w f) v,
-    )
-
-pub seek_refuses : (m : MemoryStream) (es fs : List Entry) (at : ℕ) (e : Refusal) (target : ℤ) (w : Option Whence) → InMemory m → at ≡ m.pos → fs ≡ drop 1 es → Err e ≡ verdict es (own call.Seek at) → (w ≡ None → ⊥) →
-    Leaves {X = ℕ} call.Seek (under fs (memory m)) (cut_short (memory_pile m)) (cut_short (memory_pile m)) (Err e) × st.SeekBy (under es (memory m)) (under fs (memory m)) target w (Err e) × (Err e ≡ granting (verdict es (own call.Seek m.pos)) (λ _. seek_answer (under es (memory m)) target w))
-seek_refuses m es fs at e target None ok here used is some = absurd (some refl)
-seek_refuses m es fs at e target (Some o) ok here used is some =
-    script_refuses (Outside (under es (memory m)) (target +ℤ pos (st.origin (under es (memory m)) o))) ⊥ call.Seek m es fs at e (λ _. seek_answer (under es (memory m)) target (Some o)) ok here used is
+    let fair : Fair ⊥ ⊥ (under es (memory m)) o (Err e) = subst (Fair ⊥ ⊥ (under es (memory m)) o) (sym is) (fair_verdict ⊥ ⊥ (under es (memory m)) o es) in
+    rw (same, residual r e out) (record { piled = record { headers_same = refl; whole_same = refl }; source = blames_map (λ x. x ≡ o) (λ x. (x ≡ o) ⊎ Passed c [] x) (λ x h. inl h) e fair.1 })
 
 -- ── a call that it grants ──
-
--- the answer, given how many bytes may move
-pub granted : {X : Type 0} (c : Call) (es : List Entry) (at place most : ℕ) (f : ℕ → Result X Refusal) → at ≡ place → Ok most ≡ verdict es (own c at) → f most ≡ granting (verdict es (own c place)) f
-granted {X} c es at place most f here is = ap (λ (w : Result ℕ Refusal). granting {X = X} w f) (is ∙ ap (λ (n : ℕ). verdict es (own c n)) here)
 
 -- a read into the front of the buffer, cut at the script's count
 pub read_under : (s t : Stream) (es fs : List Entry) (buf out : List ℕ) (k most : ℕ) (r : Result ℕ Refusal) → s.steady ≡ true → fs ≡ drop 1 es → k ≡ min (length buf) most → 0 < most → st.ReadInto s t (take k buf) out r → st.ReadInto (under es s) (under fs t) buf (out ++ drop k buf) r
@@ -131,9 +101,6 @@ read_under s t es fs buf out k most (Ok n) u used is some q =
 read_under s t es fs buf out k most (Err e) u used is some q =
     (ap (λ (o : List ℕ). o ++ drop k buf) q.0 ∙ take-append-drop k buf, refused_under ⊥ ⊥ ⊥ s t es fs e u (λ x. x) used q.1)
 
-pub read_answer : (s : Stream) (buf : List ℕ) (k most : ℕ) → k ≡ min (length buf) most → all_read s (length (take k buf)) ≡ at_most (all_read s (length buf)) most
-read_answer s buf k most is = let l : length (take k buf) ≡ k = simp length-take (omega arith) in ap Ok (omega arith)
-
 -- a write of the front of the bytes, all of which fit
 pub write_under : (s t : Stream) (es fs : List Entry) (buf : List ℕ) (k most : ℕ) (r : Result ℕ Refusal) → s.steady ≡ true → fs ≡ drop 1 es → k ≡ min (length buf) most → 0 < most → s.position + length buf ≤ s.limit → st.Write s t (take k buf) r → st.Write (under es s) (under fs t) buf r
 write_under s t es fs buf k most (Ok n) u used is some fits q =
@@ -151,83 +118,5 @@ write_under s t es fs buf k most (Err e) u used is some fits q =
     let l : length (take k buf) ≡ k = simp length-take (omega arith) in
     refused_under ⊥ (s.limit < s.position + length (take k buf)) (s.limit < s.position + length buf) s t es fs e u (λ h. omega arith) used q
 
-pub write_answer : (s : Stream) (buf : List ℕ) (k most : ℕ) → k ≡ min (length buf) most → s.position + length buf ≤ s.limit → all_written s (length (take k buf)) ≡ at_most (all_written s (length buf)) most
-write_answer s buf k most is fits = let l : length (take k buf) ≡ k = simp length-take (omega arith) in grind (arith, nat_tests)
-
-seek_to_under : (s t : Stream) (es fs : List Entry) (goal : ℤ) (r : Result ℕ Refusal) → s.steady ≡ true → fs ≡ drop 1 es → st.SeekTo s t goal r → st.SeekTo (under es s) (under fs t) goal r
-seek_to_under s t es fs goal (Ok n) u used q = record { kept = kept_under s t es fs used q.kept; goal_is = q.goal_is; fits = q.fits; shown_same = q.shown_same; moved = q.moved }
-seek_to_under s t es fs goal (Err e) u used q = refused_under (Outside s goal) ⊥ ⊥ s t es fs e u (λ x. x) used q
-
-origin_under : (s : Stream) (es : List Entry) (o : Whence) → st.origin s o ≡ st.origin (under es s) o
-origin_under s es Start = refl
-origin_under s es Current = refl
-origin_under s es End = refl
-
-pub seek_under : (s t : Stream) (es fs : List Entry) (target : ℤ) (w : Option Whence) (r : Result ℕ Refusal) → s.steady ≡ true → fs ≡ drop 1 es → (w ≡ None → ⊥) → st.SeekBy s t target w r → st.SeekBy (under es s) (under fs t) target w r
-seek_under s t es fs target None r u used some q = absurd (some refl)
-seek_under s t es fs target (Some o) r u used some q = seek_to_under s t es fs _ r u used (subst (λ (k : ℕ). st.SeekTo s t (target +ℤ pos k) r) (origin_under s es o) q)
-
-pub seek_answered : (s : Stream) (es : List Entry) (target : ℤ) (w : Option Whence) → seek_answer s target w ≡ seek_answer (under es s) target w
-seek_answered s es target None = refl
-seek_answered s es target (Some o) = ap (λ (k : ℕ). ok_or (within s.limit (target +ℤ pos k)) (OutOfRange (own call.Seek s.position))) (origin_under s es o)
-
--- a seek by no whence
-pub not_some : (w : Option Whence) → is_some w ≡ false → w ≡ None
-not_some None e = refl
-not_some (Some o) e = let z : ◌≡◌ {A = ℕ} 0 1 = cc in absurd (omega arith)
-
-pub seek_bad : (m : MemoryStream) (es : List Entry) (target : ℤ) (w : Option Whence) → InMemory m → w ≡ None →
-    Leaves {X = ℕ} call.Seek (under es (memory m)) (cut_short (memory_pile m)) (cut_short (memory_pile m)) (Err BadWhence) × st.SeekBy (under es (memory m)) (under es (memory m)) target w (Err BadWhence)
-seek_bad m es target w ok is =
-    let s = under es (memory m) in
-    let q : st.SeekBy s s target None (Err BadWhence) = (refl, still_refl s) in (
-      record { sound = sound_under (memory m) es (sound_file m.bytes.now m.len m.pos ok); piled = record { headers_same = refl; whole_same = refl; based = refl }; source = tt },
-      subst (λ (x : Option Whence). st.SeekBy s s target x (Err BadWhence)) (sym is) q,
-    )
-
--- the position lies within the limit, and so do bytes that are tested for
-pub placed_within : (at place limit top : ℕ) → at ≡ place → limit ≡ top → place ≤ top → at ≤ limit
-placed_within at place limit top here is h = omega arith
-
 pub fits_within : (at place limit top n : ℕ) → at ≡ place → limit ≡ top → place ≤ top → n ≤ limit - at → place + n ≤ top
 fits_within at place limit top n here is h fits = omega arith
-
-pub front_length : (buf : List ℕ) (k most : ℕ) → k ≡ min (length buf) most → k ≡ length (take k buf)
-front_length buf k most is = simp length-take (omega arith)
-
--- a write that would end past the limit
-past_answer : (s : Stream) (k most : ℕ) → s.limit < s.position + k → Err (PastLimit (own call.Write s.position)) ≡ at_most (all_written s k) most
-past_answer s k most h = grind (arith, nat_tests)
-
-pub write_past : (m : MemoryStream) (es fs : List Entry) (at limit k most : ℕ) → InMemory m → at ≡ m.pos → limit ≡ (memory m).limit → limit - at < k → fs ≡ drop 1 es → Ok most ≡ verdict es (own call.Write at) →
-    Leaves {X = ℕ} call.Write (under fs (memory m)) (cut_short (memory_pile m)) (cut_short (memory_pile m)) (Err (PastLimit (own call.Write at))) × Refused (under es (memory m)) (under fs (memory m)) ⊥ ((memory m).limit < m.pos + k) (PastLimit (own call.Write at)) × (Err (PastLimit (own call.Write at)) ≡ granting (verdict es (own call.Write m.pos)) (at_most (all_written (memory m) k)))
-write_past m es fs at limit k most ok here top past used is =
-    let s = memory m in
-    let far : s.limit < s.position + k = omega arith in (
-      record { sound = sound_under s fs (sound_file m.bytes.now m.len m.pos ok); piled = record { headers_same = refl; whole_same = refl; based = refl }; source = inl (ap (own call.Write) here) },
-      record { still = still_under s s es fs used (still_refl s); why = far },
-      ap (λ (n : ℕ). Err (PastLimit (own call.Write n))) here ∙ past_answer s k most far ∙ granted call.Write es at m.pos most (at_most (all_written s k)) here is,
-    )
-
-pub truncate_under : (s t : Stream) (es fs : List Entry) (goal : ℤ) (r : Result ℕ Refusal) → s.steady ≡ true → fs ≡ drop 1 es → st.Truncate s t goal r → st.Truncate (under es s) (under fs t) goal r
-truncate_under s t es fs goal (Ok n) u used q = record { kept = kept_under s t es fs used q.kept; goal_is = q.goal_is; fits = q.fits; shown_cut = q.shown_cut; position_same = q.position_same }
-truncate_under s t es fs goal (Err e) u used q = refused_under (Outside s goal) ⊥ ⊥ s t es fs e u (λ x. x) used q
-
--- what a call leaves that moves nothing
-leaves_still : {X : Type 0} (c : Call) (m : MemoryStream) (fs : List Entry) (v : X) → InMemory m → Leaves {X = X} c (under fs (memory m)) (cut_short (memory_pile m)) (cut_short (memory_pile m)) (Ok v)
-leaves_still c m fs v ok = record { sound = sound_under (memory m) fs (sound_file m.bytes.now m.len m.pos ok); piled = record { headers_same = refl; whole_same = refl; based = refl }; source = tt }
-
-pub tell_under : (m n : MemoryStream) (es fs : List Entry) (at most : ℕ) (r : Result ℕ Refusal) → InMemory m → n ≡ m → r ≡ Ok m.pos → at ≡ m.pos → fs ≡ drop 1 es → Ok most ≡ verdict es (own call.Tell at) →
-    Leaves call.Tell (under fs (memory n)) (cut_short (memory_pile m)) (cut_short (memory_pile n)) r × st.Tell (under es (memory m)) (under fs (memory n)) r × (r ≡ granting (verdict es (own call.Tell m.pos)) (λ _. Ok m.pos))
-tell_under m n es fs at most r ok same answer here used is =
-    rw (same, answer) (leaves_still call.Tell m fs m.pos ok, (refl, unmoved_under (memory m) es fs used), granted call.Tell es at m.pos most (λ _. Ok m.pos) here is)
-
-pub flush_under : (m n : MemoryStream) (es fs : List Entry) (at most : ℕ) (r : Result (Unit {0}) Refusal) → InMemory m → n ≡ m → r ≡ Ok tt → at ≡ m.pos → fs ≡ drop 1 es → Ok most ≡ verdict es (own call.Flush at) →
-    Leaves call.Flush (under fs (memory n)) (cut_short (memory_pile m)) (cut_short (memory_pile n)) r × st.Flush (under es (memory m)) (under fs (memory n)) r × (r ≡ granting (verdict es (own call.Flush m.pos)) (λ _. Ok tt))
-flush_under m n es fs at most r ok same answer here used is =
-    rw (same, answer) (leaves_still call.Flush m fs tt ok, record { still = still_under (memory m) (memory m) es fs used (still_refl (memory m)); stored_shown = refl; held_shown = λ p b h. test_at (take m.len m.bytes.now) p b h }, granted call.Flush es at m.pos most (λ _. Ok tt) here is)
-
--- a scripted stream need not move all it can
-pub whole_cut : (p : Pile) (s : Stream) (most : ℕ) (r : Result ℕ Refusal) → st.Whole (cut_short p) s most r
-whole_cut p s most (Ok n) = λ u v. let z : ◌≡◌ {A = ℕ} 0 1 = cc in absurd (omega arith)
-whole_cut p s most (Err e) = tt

@@ -1,8 +1,8 @@
 -- A memory stream whose calls a script may cut short or refuse.
 use Rattle.std.specs.Prelude.{ℕ, min, false, List, Ok, Err, Result}
 use Rattle.calls.specs.declared.refusal.Refusal.{Refusal}
-use Rattle.stream.specs.Stream.{Stream, Pile}
-use Rattle.memory.specs.Memory.{memory, memory_pile, InMemory}
+use Rattle.stream.specs.Stream.{Stream, Pile, Sound}
+use Rattle.memory.specs.Memory.{memory, memory_pile}
 use Rattle.script.specs.declared.Entry.{Entry}
 use Rattle.scripted.specs.declared.ScriptedStream.{ScriptedStream}
 use Rattle.script.specs.Script.{entries_left, grants}
@@ -10,6 +10,10 @@ use Rattle.script.specs.Script.{entries_left, grants}
 -- a stream that is steady exactly while each entry left has kind 0 and n above 0
 abbrev pub under : List Entry → Stream → Stream
 under es s = record { shown = s.shown; position = s.position; limit = s.limit; stored = s.stored; held = s.held; steady = grants es }
+
+-- in order, as the stream is without the script
+pub sound_under : (s : Stream) (es : List Entry) → Sound s → Sound (under es s)
+sound_under s es k = record { capped = k.capped; placed = k.placed; sized = k.sized; showing = k.showing; storing = k.storing }
 
 -- it does not always move all it can
 abbrev pub cut_short : Pile → Pile
@@ -20,9 +24,6 @@ scripted s = under (entries_left s.script) (memory s.memory)
 
 abbrev pub scripted_pile : ScriptedStream → Pile
 scripted_pile s = cut_short (memory_pile s.memory)
-
-abbrev pub InScript : ScriptedStream → Type 0
-InScript s = InMemory s.memory
 
 -- where the verdict grants, the answer, given how many bytes may move
 abbrev pub granting : {X : Type 0} → Result ℕ Refusal → (ℕ → Result X Refusal) → Result X Refusal

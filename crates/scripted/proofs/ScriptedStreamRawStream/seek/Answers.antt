@@ -1,8 +1,11 @@
-use Rattle.std.proofs.lemmas.Int.{to_z-of_z}
+use Rattle.calls.specs.declared.refusal.Call.TheVariants as call
+use Rattle.script.specs.Script.{entries_left}
+use Rattle.scripted.proofs.OnScript.{refused_leaves}
 use Rattle.scripted.proofs.ScriptedStreamRawStream.seek.Goals as goal
 
-pub returns : goal.returns
-returns c =
-    let h = c.ranges.whence in
-    let k = c.ranges.target in
-    record { order = c.seek.ensures.order; leaves = c.seek.ensures.leaves; rule = simp to_z-of_z at c.seek.ensures.rule }
+pub returns-in_err-next-clause-leaves : goal.returns-in_err-next-clause-leaves
+returns-in_err-next-clause-leaves c =
+    let s = c.args.self.now in
+    let t = c.next.new.self in
+    let a = c.in_err-next.ensures in
+    refused_leaves call.Seek s.memory t.memory (entries_left s.script) (entries_left t.script) c.in_err-next.field-0.0 c.from_residual-in_err-next.result a.memory a.answer c.from_residual-in_err-next.ensures.1
