@@ -1,9 +1,6 @@
 // Patches a curve file: commands on standard input, and the file is replaced only where everything was granted.
 #![tactic(auto)]
 
-use anyhow::anyhow;
-use curves::Ending;
-use options::Options;
 use std::process::ExitCode;
 
 mod options;
@@ -44,18 +41,15 @@ fn input(rt: &HostRuntime) -> anyhow::Result<String> {
 }
 
 fn start(rt: &HostRuntime) -> anyhow::Result<()> {
-    let options = Options::read(rt)?;
-    if options.help || options.settings.path.len() == 0 {
+    let Some(settings) = options::read(rt)? else {
         print!(rt; "{HELP}")?;
         return Ok(());
-    }
+    };
     let text = input(rt)?;
-    let ending = curves::run(rt, &options.settings, text.as_str())?;
-    let path = options.settings.path.as_str();
-    match ending {
-        Ending::Same => println!(rt; "{path} is not changed")?,
-        Ending::Replaced(count) => println!(rt; "rows changed: {count}; {path} is replaced")?,
-        Ending::Left => return Err(anyhow!("the file is left as it was")),
+    let path = settings.path.as_str();
+    match curves::run(rt, &settings, text.as_str())? {
+        0 => println!(rt; "{path} is not changed")?,
+        count => println!(rt; "rows changed: {count}; {path} is replaced")?,
     }
     Ok(())
 }

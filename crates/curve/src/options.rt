@@ -1,93 +1,44 @@
 // What the program is told by its arguments.
-use anyhow::anyhow;
+use anyhow::{Context, anyhow};
 use curves::Settings;
 use std::env;
 use std::rt::Env;
 
-#[derive(Drop)]
-pub struct Options {
-    pub help: bool,
-    pub settings: Settings,
+// The value of a flag: the word behind it.
+fn number(flag: &str, word: Option<String>) -> anyhow::Result<i64> {
+    word.and_then(|word| word.as_str().parse().ok())
+        .context(format_args!("{flag} wants a whole number"))
 }
 
-// What the next argument is.
-#[derive(Clone, Copy)]
-enum Slot {
-    Name,
-    Header,
-    Buffer,
-}
-
-fn number(flag: &str, word: &str) -> anyhow::Result<i64> {
-    match word.parse::<i64>() {
-        Ok(n) => Ok(n),
-        Err(_) => Err(anyhow!("{flag}")),
-    }
-}
-
-impl Options {
-    // Takes the arguments; their ranges are tested where they are used.
-    pub fn read(rt: &HostRuntime) -> anyhow::Result<Options> {
-        let heap = rt.alloc();
-        let settings = Settings {
-            path: String::new(heap),
-            header: 0,
-            buffer: 8192,
-            tenors: Vec::new(heap),
-        };
-        let mut options = Options {
-            help: false,
-            settings,
-        };
-        let mut slot = Slot::Name;
-        for word in env::args(rt)?.skip(1) {
-            slot = options.take(slot, word)?;
-        }
-        match slot {
-            Slot::Header => Err(anyhow!("--header wants a whole number")),
-            Slot::Buffer => Err(anyhow!("--buffer wants a whole number")),
-            Slot::Name => Ok(options),
-        }
-    }
-
-    // One argument, and what the next one is.
-    fn take(&mut self, slot: Slot, word: String) -> anyhow::Result<Slot> {
-        match slot {
-            Slot::Header => self.settings.header = number(
-                "--header wants a whole number",
-                word.as_str(),
-            )?,
-            Slot::Buffer => self.settings.buffer = number(
-                "--buffer wants a whole number",
-                word.as_str(),
-            )?,
-            Slot::Name => return self.name(word),
-        }
-        Ok(Slot::Name)
-    }
-
-    // A flag, the file, or after it a tenor.
-    fn name(&mut self, word: String) -> anyhow::Result<Slot> {
+// Takes the arguments, and answers none where help is asked for or no file is named. Ranges are tested where they are used.
+pub fn read(rt: &HostRuntime) -> anyhow::Result<Option<Settings>> {
+    let mut help = false;
+    let mut path = None;
+    let mut header = 0;
+    let mut buffer = 8192;
+    let mut tenors = Vec::new(rt.alloc());
+    let mut args = env::args(rt)?.skip(1);
+    while let Some(word) = args.next() {
         match word.as_str() {
-            "--help" => self.help = true,
-            "--header" => return Ok(Slot::Header),
-            "--buffer" => return Ok(Slot::Buffer),
-            text => {
-                if text.starts_with("--") {
-                    return Err(anyhow!("an unknown flag: --help tells those that there are"));
-                }
-                self.keep(word)?;
+            "--help" => help = true,
+            "--header" => header = number("--header", args.next())?,
+            "--buffer" => buffer = number("--buffer", args.next())?,
+            flag if flag.starts_with("--") => {
+                return Err(anyhow!("an unknown flag: --help tells those that there are"));
             }
+            // an empty word names no file
+            "" if path.is_none() => {}
+            _ if path.is_none() => path = Some(word),
+            _ => tenors.push(word)?,
         }
-        Ok(Slot::Name)
     }
-
-    fn keep(&mut self, word: String) -> anyhow::Result<()> {
-        if self.settings.path.len() == 0 {
-            self.settings.path = word;
-        } else {
-            self.settings.tenors.push(word)?;
-        }
-        Ok(())
+    if help {
+        return Ok(None);
     }
+    Ok(path.map(|path| Settings {
+        path,
+        header,
+        buffer,
+        tenors,
+    }))
 }

@@ -1,7 +1,7 @@
 // Runs of the curve program's work on a file of its own: the file is the new one where all was granted, and else the old one.
 #![tactic(auto)]
 
-use curves::{Ending, Settings};
+use curves::{RunError, Settings};
 use std::{fs, io};
 
 struct Case {
@@ -93,39 +93,40 @@ const CASES: [Case; 14] = [
 
 fn settings(rt: &HostRuntime, case: &Case) -> io::Result<Settings> {
     let heap = rt.alloc();
-    let mut tenors = Vec::new(heap);
-    tenors.push(String::from_str(heap, "1Y")?)?;
-    tenors.push(String::from_str(heap, "2Y")?)?;
-    let path = String::from_str(heap, "tried.curve")?;
+    let tenors = vec![in heap;
+        String::from_str(heap, "1Y")?,
+        String::from_str(heap, "2Y")?,
+    ]?;
     Ok(Settings {
-        path,
+        path: String::from_str(heap, "tried.curve")?,
         header: case.header,
         buffer: case.buffer,
         tenors,
     })
 }
 
-fn tell(rt: &HostRuntime, run: Ending) -> io::Result<()> {
+// Prints what came of a run.
+fn tell(rt: &HostRuntime, run: Result<u32, RunError>) -> io::Result<()> {
     match run {
-        Ending::Same => println!(rt; "same"),
-        Ending::Replaced(n) => println!(rt; "replaced, rows changed: {n}"),
-        Ending::Left => println!(rt; "left"),
+        Ok(0) => println!(rt; "same"),
+        Ok(n) => println!(rt; "replaced, rows changed: {n}"),
+        Err(RunError::Left) => println!(rt; "left"),
+        Err(RunError::Io(e)) => Err(e),
     }
 }
 
 // Prints what came of a run on a new file, and what the file then holds.
 fn go(rt: &HostRuntime, case: &Case) -> io::Result<()> {
     fs::write(rt, "tried.curve", OLD)?;
-    tell(rt, curves::run(rt, &settings(rt, case)?, case.text)?)?;
-    for b in fs::read(rt, "tried.curve")?.iter() {
-        let b = *b;
+    tell(rt, curves::run(rt, &settings(rt, case)?, case.text))?;
+    for b in fs::read(rt, "tried.curve")? {
         print!(rt; " {b:02x}")?;
     }
     println!(rt; "")
 }
 
 fn main(rt: HostRuntime) -> io::Result<()> {
-    for case in CASES.iter() {
+    for case in &CASES {
         go(&rt, case)?;
     }
     Ok(())

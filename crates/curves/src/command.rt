@@ -1,57 +1,54 @@
-// One command of a line.
+// One command of a line, and the row that it names.
+use crate::error::CommandError;
+use rows::refusal::RowRefusal;
 
+#[derive(Clone, Copy, Debug, PartialEq, Eq)]
 pub enum Command<'a> {
-    Nothing,
     List,
     Get(&'a str),
     Put(&'a str, &'a str),
-    Unknown,
 }
 
-fn or_empty(word: Option<&str>) -> &str {
-    match word {
-        Some(word) => word,
-        None => "",
-    }
-}
-
-// The command that a line holds: nothing in a blank one or a remark.
-pub fn command_of(line: &str) -> Command<'_> {
-    let mut words = line.split_whitespace();
-    let name = or_empty(words.next());
-    let row = or_empty(words.next());
-    let value = or_empty(words.next());
-    let rest = or_empty(words.next());
-    if name.is_empty() || name.starts_with('#') {
-        return Command::Nothing;
-    }
-    if !rest.is_empty() {
-        return Command::Unknown;
-    }
-    named(name, row, value)
-}
-
-// An empty word is one that is not there.
-fn named<'a>(name: &str, row: &'a str, value: &'a str) -> Command<'a> {
-    match name {
-        "list" if row.is_empty() => Command::List,
-        "get" if !row.is_empty() && value.is_empty() => Command::Get(row),
-        "put" if !value.is_empty() => Command::Put(row, value),
-        _ => Command::Unknown,
-    }
-}
-
-// The row of a tenor's name, or of a number.
-pub fn row_of(tenors: &Vec<String>, word: &str) -> Option<u32> {
-    let mut row = 0u32;
-    for name in tenors.iter() {
-        if name.as_str() == word {
-            return Some(row);
+impl<'a> Command<'a> {
+    // The command that a line holds: none in a blank one or a remark.
+    pub fn parse(line: &'a str) -> Result<Option<Command<'a>>, CommandError<'a>> {
+        let mut words = line.split_whitespace();
+        match (words.next(), words.next(), words.next(), words.next()) {
+            (None, _, _, _) => Ok(None),
+            (Some(name), _, _, _) if name.starts_with('#') => Ok(None),
+            (Some("list"), None, _, _) => Ok(Some(Command::List)),
+            (Some("get"), Some(row), None, _) => Ok(Some(Command::Get(row))),
+            (Some("put"), Some(row), Some(value), None) => Ok(Some(Command::Put(row, value))),
+            _ => Err(CommandError::NoCommand(line)),
         }
-        row = row.saturating_add(1);
     }
-    match word.parse::<u32>() {
-        Ok(n) => Some(n),
-        Err(_) => None,
+}
+
+// A row, under the name that it was asked for by.
+#[derive(Clone, Copy, Debug, PartialEq, Eq)]
+pub struct Row<'a> {
+    pub name: &'a str,
+    pub number: u32,
+}
+
+impl<'a> Row<'a> {
+    // The row of the tenor at an index; one past all row numbers has the last.
+    pub fn of_tenor(name: &'a str, index: usize) -> Row<'a> {
+        let number = u32::try_from(index).unwrap_or(u32::MAX);
+        Row { name, number }
+    }
+
+    // The row of a tenor's name, or of a number.
+    pub fn find(tenors: &[String], name: &'a str) -> Result<Row<'a>, CommandError<'a>> {
+        if let Some(index) = tenors.iter().position(|tenor| tenor.as_str() == name) {
+            return Ok(Row::of_tenor(name, index));
+        }
+        let number = name.parse().map_err(|_| CommandError::NoTenor(name))?;
+        Ok(Row { name, number })
+    }
+
+    // A command on this row was refused.
+    pub fn refused(self, why: RowRefusal) -> CommandError<'a> {
+        CommandError::Row(self.name, why)
     }
 }

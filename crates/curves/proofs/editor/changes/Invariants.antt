@@ -1,4 +1,4 @@
-use Rattle.curves.proofs.session.changes.Given as goal
+use Rattle.curves.proofs.editor.changes.Given as goal
 
 -- both streams stay in order
 abbrev pub invariant-loop-row : goal.invariant-loop-row

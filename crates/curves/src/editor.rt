@@ -1,0 +1,146 @@
+// Commands on the rows of a stream, of any kind of quote over any stream, and the table of what they changed.
+use crate::command::{Command, Row};
+use crate::error::{CommandError, RunError};
+use quotes::quote::Quote;
+use rows::refusal::RowRefusal;
+use rows::rows::{get, patch};
+use std::io;
+use std::marker::PhantomData;
+use stream::raw::RawStream;
+
+// What the commands work on: the rows of a stream, and the names of the first ones.
+#[derive(Drop)]
+pub struct Editor<'a, Q, S> {
+    rt: &'a HostRuntime,
+    stream: S,
+    tenors: &'a [String],
+    // something was refused, and told
+    refused: bool,
+    kind: PhantomData<Q>,
+}
+
+impl<'a, Q: Quote, S: RawStream> Editor<'a, Q, S> {
+    pub fn new(rt: &'a HostRuntime, stream: S, tenors: &'a [String]) -> Editor<'a, Q, S>
+        requires { S.RawStream.ready stream }
+        ensures { S.RawStream.ready result.stream }
+    {
+        Editor {
+            rt,
+            stream,
+            tenors,
+            refused: false,
+            kind: PhantomData,
+        }
+    }
+
+    // Runs the command of each line of a text, and prints what is refused.
+    pub fn run(&mut self, text: &str) -> Result<(), RunError>
+        requires { S.RawStream.ready self.old.stream }
+        ensures { S.RawStream.ready self.new.stream }
+    {
+        for line in text.lines() {
+            if let Err(e) = self.serve(line) {
+                self.tell(e)?;
+            }
+        }
+        if self.refused {
+            return Err(RunError::Left);
+        }
+        Ok(())
+    }
+
+    // Runs the command of one line.
+    fn serve<'l>(&mut self, line: &'l str) -> Result<(), CommandError<'l>>
+        requires { S.RawStream.ready self.old.stream }
+        ensures { S.RawStream.ready self.new.stream }
+    {
+        match Command::parse(line)? {
+            None => {}
+            Some(Command::List) => self.list()?,
+            Some(Command::Get(name)) => self.show(Row::find(self.tenors, name)?)?,
+            Some(Command::Put(name, value)) => self.put(Row::find(self.tenors, name)?, value)?,
+        }
+        Ok(())
+    }
+
+    // Prints what was refused; a failure of the printing itself is passed on.
+    fn tell(&mut self, e: CommandError<'_>) -> io::Result<()>
+        requires { S.RawStream.ready self.old.stream }
+        ensures { S.RawStream.ready self.new.stream }
+    {
+        if let CommandError::Io(e) = e {
+            return Err(e);
+        }
+        self.refused = true;
+        println!(self.rt; "{e}")
+    }
+
+    // Prints the quotes of all tenors, past those that are refused.
+    fn list(&mut self) -> io::Result<()>
+        requires { S.RawStream.ready self.old.stream }
+        ensures { S.RawStream.ready self.new.stream }
+    {
+        for (index, name) in self.tenors.iter().enumerate() {
+            if let Err(e) = self.show(Row::of_tenor(name.as_str(), index)) {
+                self.tell(e)?;
+            }
+        }
+        Ok(())
+    }
+
+    // Prints the quote of one row.
+    fn show<'r>(&mut self, row: Row<'r>) -> Result<(), CommandError<'r>>
+        requires { S.RawStream.ready self.old.stream }
+        ensures { S.RawStream.ready self.new.stream }
+    {
+        let Row { name, number } = row;
+        let value = get::<Q, S>(&mut self.stream, number).map_err(|why| row.refused(why))?;
+        println!(self.rt; "{name:>8} {number:>8} {value:>8}")?;
+        Ok(())
+    }
+
+    // Puts a value, as it was typed, into a row that is there, flushes, and reads it back.
+    fn put<'r>(&mut self, row: Row<'r>, value: &'r str) -> Result<(), CommandError<'r>>
+        requires { S.RawStream.ready self.old.stream }
+        ensures { S.RawStream.ready self.new.stream }
+    {
+        let typed = value
+            .parse::<i128>()
+            .map_err(|_| CommandError::NoNumber(value))?;
+        // one past 32 bits is one that no kind can write
+        let value = i32::try_from(typed).map_err(|_| row.refused(RowRefusal::Unwritable))?;
+        if let Err(RowRefusal::Missing) = get::<Q, S>(&mut self.stream, row.number) {
+            return Err(row.refused(RowRefusal::Missing));
+        }
+        patch::<Q, S>(&mut self.stream, row.number, value).map_err(|e| row.refused(e.why))?;
+        Ok(())
+    }
+}
+
+// Prints each row whose quote differs, what was there and what is there now, and answers how many there are.
+pub fn changes<Q: Quote, S: RawStream, T: RawStream>(
+    rt: &HostRuntime,
+    old: &mut S,
+    new: &mut T,
+) -> io::Result<u32>
+    requires { S.RawStream.ready old.old × T.RawStream.ready new.old }
+{
+    let mut count = 0u32;
+    for row in 0..u32::MAX {
+        let Ok(was) = get::<Q, S>(old, row) else {
+            break;
+        };
+        let Ok(now) = get::<Q, T>(new, row) else {
+            break;
+        };
+        if was == now {
+            continue;
+        }
+        if count == 0 {
+            println!(rt; "     row      was      now")?;
+        }
+        println!(rt; "{row:>8} {was:>8} {now:>8}")?;
+        count = count.saturating_add(1);
+    }
+    Ok(count)
+}
