@@ -3,6 +3,7 @@
 
 use std::io;
 
+mod answer;
 mod digit;
 mod quoted;
 mod steps;

@@ -1,76 +1,66 @@
 // The worked cases of quotes and rows.
+use crate::answer::{Answer, Done, Hex};
 use crate::digit::Digit;
-use crate::steps;
+use crate::steps::entry;
 use memory::MemoryStream;
 use quotes::basis_points::BasisPoints;
 use quotes::quote::Quote;
-use rows::refusal::{PutRefusal, RowRefusal};
 use rows::rows::{get, patch, put};
-use script::Entry;
 use scripted::ScriptedStream;
-use std::io;
+use std::{fmt, io};
 use stream::raw::RawStream;
 
 // Puts, gets and patches of rows as a table.
-#[derive(Clone, Copy)]
+#[derive(Clone, Copy, Debug, PartialEq, Eq)]
 enum Turn {
     Get(u32),
     Put(u32, i32),
     Patch(u32, i32),
 }
 
-fn why(rt: &HostRuntime, e: RowRefusal) -> io::Result<()> {
-    match e {
-        RowRefusal::Below(e) => steps::refused(rt, e),
-        e => {
-            let number = e.number();
-            println!(rt; "refused {number}")
+impl fmt::Display for Turn {
+    fn fmt<W: fmt::Write>(&self, f: &mut fmt::Formatter<W>) -> fmt::Result {
+        match self {
+            Turn::Get(i) => write!(f, "get {i}"),
+            Turn::Put(i, value) => write!(f, "put {i} {value}"),
+            Turn::Patch(i, value) => write!(f, "patch {i} {value}"),
         }
     }
-}
-
-fn fresh(rt: &HostRuntime, e: PutRefusal) -> io::Result<()> {
-    let n = e.fresh;
-    print!(rt; "{n} new, ")?;
-    why(rt, e.why)
 }
 
 fn make<Q: Quote, S: RawStream>(rt: &HostRuntime, s: &mut S, turn: Turn) -> io::Result<()>
     requires { S.RawStream.ready s.old }
     ensures { S.RawStream.ready s.new }
 {
+    print!(rt; "{turn}: ")?;
     match turn {
-        Turn::Get(i) => {
-            print!(rt; "get {i}: ")?;
-            match get::<Q, S>(s, i) {
-                Ok(v) => println!(rt; "ok {v}"),
-                Err(e) => why(rt, e),
-            }
-        }
-        Turn::Put(i, value) => {
-            print!(rt; "put {i} {value}: ")?;
-            match put::<Q, S>(s, i, value) {
-                Ok(()) => println!(rt; "ok"),
-                Err(e) => fresh(rt, e),
-            }
-        }
-        Turn::Patch(i, value) => {
-            print!(rt; "patch {i} {value}: ")?;
-            match patch::<Q, S>(s, i, value) {
-                Ok(v) => println!(rt; "ok {v}"),
-                Err(e) => fresh(rt, e),
-            }
-        }
+        Turn::Get(i) => rt.println(Answer(get::<Q, S>(s, i))),
+        Turn::Put(i, value) => rt.println(Done(put::<Q, S>(s, i, value))),
+        Turn::Patch(i, value) => rt.println(Answer(patch::<Q, S>(s, i, value))),
     }
 }
 
 fn run<Q: Quote, S: RawStream>(rt: &HostRuntime, s: &mut S, turns: &[Turn]) -> io::Result<()>
     requires { S.RawStream.ready s.old }
 {
-    for one in turns {
-        make::<Q, S>(rt, s, *one)?;
+    for &turn in turns {
+        make::<Q, S>(rt, s, turn)?;
     }
     Ok(())
+}
+
+// Prints the title, runs a case over the slice, and prints what the slice then holds.
+fn on_slice<F: FnOnce(&mut [u8]) -> io::Result<()>>(
+    rt: &HostRuntime,
+    title: &str,
+    slice: &mut [u8],
+    case: F,
+) -> io::Result<()>
+    requires { F.IsAlwaysCallable case }
+{
+    rt.println(title)?;
+    case(slice)?;
+    println!(rt; "  slice{}", Hex(slice))
 }
 
 // Two rows, and a half of a third.
@@ -86,11 +76,10 @@ const ROWS: [Turn; 8] = [
 ];
 
 pub fn in_memory(rt: &HostRuntime) -> io::Result<()> {
-    println!(rt; "basis points in memory")?;
     let mut slice = [1, 0, 0xfe, 0xff, 7];
-    run::<BasisPoints, MemoryStream<'_>>(rt, &mut MemoryStream::new(&mut slice, 5), &ROWS)?;
-    print!(rt; "  slice")?;
-    steps::hex(rt, &slice)
+    on_slice(rt, "basis points in memory", &mut slice, |slice| {
+        run::<BasisPoints, _>(rt, &mut MemoryStream::new(slice, 5), &ROWS)
+    })
 }
 
 // A put that is cut short goes on, and a refused one tells how much of the row is new.
@@ -101,28 +90,29 @@ const CUT_SHORT: [Turn; 4] = [
     Turn::Patch(1, -25),
 ];
 
-const TROUBLE: [Entry; 9] = [
-    Entry { kind: 0, n: 9 },
-    Entry { kind: 0, n: 1 },
-    Entry { kind: 0, n: 1 },
-    Entry { kind: 0, n: 9 },
-    Entry { kind: 0, n: 1 },
-    Entry { kind: 1, n: 0 },
-    Entry { kind: 0, n: 9 },
-    Entry { kind: 0, n: 1 },
-    Entry { kind: 3, n: 4 },
+const TROUBLE: [(u8, u32); 9] = [
+    (0, 9),
+    (0, 1),
+    (0, 1),
+    (0, 9),
+    (0, 1),
+    (1, 0),
+    (0, 9),
+    (0, 1),
+    (3, 4),
 ];
 
 pub fn in_trouble(rt: &HostRuntime) -> io::Result<()> {
-    println!(rt; "basis points over a scripted stream")?;
     let mut slice = [1, 0, 2, 0];
-    run::<BasisPoints, ScriptedStream<'_>>(
+    let entries = TROUBLE.map(entry);
+    on_slice(
         rt,
-        &mut ScriptedStream::new(&mut slice, 4, &TROUBLE),
-        &CUT_SHORT,
-    )?;
-    print!(rt; "  slice")?;
-    steps::hex(rt, &slice)
+        "basis points over a scripted stream",
+        &mut slice,
+        |slice| {
+            run::<BasisPoints, _>(rt, &mut ScriptedStream::new(slice, 4, &entries), &CUT_SHORT)
+        },
+    )
 }
 
 // Another kind over the same rows: some bytes are no quote.
@@ -134,16 +124,13 @@ const DIGITS: [Turn; 4] = [
 ];
 
 pub fn digits(rt: &HostRuntime) -> io::Result<()> {
-    println!(rt; "digits in memory")?;
-    let mut slice = [b'4', b'x', b'7'];
-    run::<Digit, MemoryStream<'_>>(rt, &mut MemoryStream::new(&mut slice, 3), &DIGITS)?;
-    print!(rt; "  slice")?;
-    steps::hex(rt, &slice)
+    on_slice(rt, "digits in memory", &mut { *b"4x7" }, |slice| {
+        run::<Digit, _>(rt, &mut MemoryStream::new(slice, 3), &DIGITS)
+    })
 }
 
 fn reads(rt: &HostRuntime, row: &[u8]) -> io::Result<()> {
-    print!(rt; "basis points of")?;
-    steps::hex(rt, row)?;
+    println!(rt; "basis points of{}", Hex(row))?;
     match BasisPoints::decode(row) {
         Some(v) => println!(rt; "  {v}"),
         None => println!(rt; "  none"),
@@ -153,16 +140,20 @@ fn reads(rt: &HostRuntime, row: &[u8]) -> io::Result<()> {
 fn writes(rt: &HostRuntime, value: i32) -> io::Result<()> {
     let mut row = [0xee; 2];
     let granted = BasisPoints::encode(value, &mut row);
-    print!(rt; "row of {value}: {granted},")?;
-    steps::hex(rt, &row)
+    println!(rt; "row of {value}: {granted},{}", Hex(&row))
 }
 
 pub fn basis_points(rt: &HostRuntime) -> io::Result<()> {
-    reads(rt, &[0xe7, 0xff])?;
-    reads(rt, &[0x00, 0x80])?;
-    reads(rt, &[0xff, 0x7f])?;
-    reads(rt, &[0x00])?;
-    reads(rt, &[0x00, 0x00, 0x00])?;
+    let rows: [&[u8]; 5] = [
+        &[0xe7, 0xff],
+        &[0x00, 0x80],
+        &[0xff, 0x7f],
+        &[0x00],
+        &[0x00, 0x00, 0x00],
+    ];
+    for row in rows {
+        reads(rt, row)?;
+    }
     for value in [-25, -32768, -32769, 32767, 32768, 0] {
         writes(rt, value)?;
     }

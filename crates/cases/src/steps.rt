@@ -1,140 +1,61 @@
-// Calls on a stream as a table, run one after another; each prints its answer, `ok` with what was answered or `refused` with the
-// number and the values.
-use calls::refusal::Refusal;
-use std::io;
+// Calls on a stream as a table, run one after another; each prints its call and its answer.
+use crate::answer::{Answer, Done, Hex};
+use script::Entry;
+use std::{fmt, io};
 use stream::raw::RawStream;
 
-#[derive(Clone, Copy)]
+#[derive(Clone, Copy, Debug, PartialEq, Eq)]
 pub enum Step {
+    // into a buffer of so many bytes, 8 at most
     Read(usize),
     Write(&'static [u8]),
     Seek(i64, i32),
     Tell,
-    Truncate(i64),
-    TruncateHere,
+    Truncate(Option<i64>),
     Flush,
     Limit,
 }
 
-fn code(rt: &HostRuntime, e: Refusal) -> io::Result<()> {
-    match e.code() {
-        Some(code) => print!(rt; " code {code}"),
-        None => Ok(()),
+impl fmt::Display for Step {
+    fn fmt<W: fmt::Write>(&self, f: &mut fmt::Formatter<W>) -> fmt::Result {
+        match self {
+            Step::Read(k) => write!(f, "readinto {k}"),
+            Step::Write(bytes) => write!(f, "write {}", bytes.len()),
+            Step::Seek(target, whence) => write!(f, "seek {target} by {whence}"),
+            Step::Tell => write!(f, "tell"),
+            Step::Truncate(Some(size)) => write!(f, "truncate {size}"),
+            Step::Truncate(None) => write!(f, "truncate"),
+            Step::Flush => write!(f, "flush"),
+            Step::Limit => write!(f, "limit"),
+        }
     }
 }
 
-fn origin(rt: &HostRuntime, e: Refusal) -> io::Result<()> {
-    let Some(o) = e.origin() else {
-        return Ok(());
-    };
-    let call = o.call;
-    let position = o.position;
-    let layers = o.layers;
-    print!(rt; " call {call} at {position} layers {layers}")
+// The entry of a script that a pair of a kind and a number stands for.
+pub fn entry((kind, n): (u8, u32)) -> Entry {
+    Entry { kind, n }
 }
 
-pub fn refused(rt: &HostRuntime, e: Refusal) -> io::Result<()> {
-    let number = e.number();
-    print!(rt; "refused {number}")?;
-    code(rt, e)?;
-    origin(rt, e)?;
-    println!(rt; "")
-}
-
-// Bytes in hex.
-pub fn hex(rt: &HostRuntime, bytes: &[u8]) -> io::Result<()> {
-    for b in bytes {
-        let b = *b;
-        print!(rt; " {b:02x}")?;
-    }
-    println!(rt; "")
-}
-
-fn number(rt: &HostRuntime, r: Result<u64, Refusal>) -> io::Result<()> {
-    match r {
-        Ok(n) => println!(rt; "ok {n}"),
-        Err(e) => refused(rt, e),
-    }
-}
-
-pub fn done(rt: &HostRuntime, r: Result<(), Refusal>) -> io::Result<()> {
-    match r {
-        Ok(()) => println!(rt; "ok"),
-        Err(e) => refused(rt, e),
-    }
-}
-
-fn seek<S: RawStream>(rt: &HostRuntime, s: &mut S, target: i64, whence: i32) -> io::Result<()>
-    requires { S.RawStream.ready s.old }
-    ensures { S.RawStream.ready s.new }
-{
-    print!(rt; "seek {target} by {whence}: ")?;
-    number(rt, s.seek(target, whence))
-}
-
-// Prints the whole buffer, to show that what a read does not fill stays.
-fn read<S: RawStream>(rt: &HostRuntime, s: &mut S, buf: &mut [u8]) -> io::Result<()>
-    requires { S.RawStream.ready s.old }
-    ensures { S.RawStream.ready s.new }
-{
-    let k = buf.len();
-    print!(rt; "readinto {k}: ")?;
-    match s.readinto(buf) {
-        Ok(n) => println!(rt; "ok {n}")?,
-        Err(e) => refused(rt, e)?,
-    }
-    print!(rt; "  buffer")?;
-    hex(rt, buf)
-}
-
-fn write<S: RawStream>(rt: &HostRuntime, s: &mut S, bytes: &[u8]) -> io::Result<()>
-    requires { S.RawStream.ready s.old }
-    ensures { S.RawStream.ready s.new }
-{
-    let k = bytes.len();
-    print!(rt; "write {k}: ")?;
-    match s.write(bytes) {
-        Ok(n) => println!(rt; "ok {n}"),
-        Err(e) => refused(rt, e),
-    }
-}
-
-fn truncate<S: RawStream>(rt: &HostRuntime, s: &mut S, size: Option<i64>) -> io::Result<()>
-    requires { S.RawStream.ready s.old }
-    ensures { S.RawStream.ready s.new }
-{
-    match size {
-        Some(n) => print!(rt; "truncate {n}: ")?,
-        None => print!(rt; "truncate: ")?,
-    }
-    number(rt, s.truncate(size))
-}
-
+// A read prints the whole buffer, to show that what it does not fill stays.
 fn make<S: RawStream>(rt: &HostRuntime, s: &mut S, step: Step) -> io::Result<()>
     requires { S.RawStream.ready s.old }
     ensures { S.RawStream.ready s.new }
 {
+    print!(rt; "{step}: ")?;
     match step {
         Step::Read(k) => {
-            let mut buf = [0xeeu8; 8];
-            read(rt, s, &mut buf[0..k.min(8)])
+            // No Vec: with one the program would trust the C allocator too.
+            let mut room = [0xee; 8];
+            let buf = &mut room[..k.min(8)];
+            rt.println(Answer(s.readinto(buf)))?;
+            println!(rt; "  buffer{}", Hex(buf))
         }
-        Step::Write(bytes) => write(rt, s, bytes),
-        Step::Seek(target, whence) => seek(rt, s, target, whence),
-        Step::Tell => {
-            print!(rt; "tell: ")?;
-            number(rt, s.tell())
-        }
-        Step::Truncate(size) => truncate(rt, s, Some(size)),
-        Step::TruncateHere => truncate(rt, s, None),
-        Step::Flush => {
-            print!(rt; "flush: ")?;
-            done(rt, s.flush())
-        }
-        Step::Limit => {
-            let limit = s.limit();
-            println!(rt; "limit: {limit}")
-        }
+        Step::Write(bytes) => rt.println(Answer(s.write(bytes))),
+        Step::Seek(target, whence) => rt.println(Answer(s.seek(target, whence))),
+        Step::Tell => rt.println(Answer(s.tell())),
+        Step::Truncate(size) => rt.println(Answer(s.truncate(size))),
+        Step::Flush => rt.println(Done(s.flush())),
+        Step::Limit => rt.println(s.limit()),
     }
 }
 
@@ -142,8 +63,8 @@ pub fn run<S: RawStream>(rt: &HostRuntime, s: &mut S, steps: &[Step]) -> io::Res
     requires { S.RawStream.ready s.old }
     ensures { S.RawStream.ready s.new }
 {
-    for one in steps {
-        make(rt, s, *one)?;
+    for &step in steps {
+        make(rt, s, step)?;
     }
     Ok(())
 }

@@ -1,5 +1,5 @@
 use Rattle.cases.proofs.steps.run.Given as goal
 
 -- the stream stays in order
-abbrev pub invariant-loop-one : goal.invariant-loop-one
-invariant-loop-one g l = g.S.RawStream.ready l.s
+abbrev pub invariant-loop-step : goal.invariant-loop-step
+invariant-loop-step g l = g.S.RawStream.ready l.s
