@@ -51,7 +51,7 @@ where
     }
 }
 
-// What a call that has no value answered.
+// What a call that has no value answered: `()` has no Display, so `Answer` does not serve.
 #[derive(Clone, Copy)]
 pub struct Done<E>(pub Result<(), E>);
 

@@ -55,6 +55,7 @@ const IN_TROUBLE: [Step; 4] = [Step::Read(2), Step::Flush, Step::Read(2), Step::
 // A seek below that is granted and a read of one byte, then a fault, then not now, and after the list all is granted.
 const TROUBLE: [(u8, u32); 4] = [(0, 5), (0, 1), (3, 77), (1, 0)];
 
+// Prints the title, and runs the steps over the stream.
 fn titled<S: RawStream + Drop>(
     rt: &HostRuntime,
     title: &str,
