@@ -1,11 +1,11 @@
 // The worked cases of quotes and rows.
 use crate::answer::{Answer, Done, Hex};
 use crate::digit::Digit;
-use crate::steps::entry;
 use memory::MemoryStream;
 use quotes::basis_points::BasisPoints;
 use quotes::quote::Quote;
 use rows::rows::{get, patch, put};
+use script::Entry;
 use scripted::ScriptedStream;
 use std::{fmt, io};
 use stream::raw::RawStream;
@@ -28,10 +28,7 @@ impl fmt::Display for Turn {
     }
 }
 
-fn make<Q: Quote, S: RawStream>(rt: &HostRuntime, s: &mut S, turn: Turn) -> io::Result<()>
-    requires { S.RawStream.ready s.old }
-    ensures { S.RawStream.ready s.new }
-{
+fn make<Q: Quote, S: RawStream>(rt: &HostRuntime, s: &mut S, turn: Turn) -> io::Result<()> {
     print!(rt; "{turn}: ")?;
     match turn {
         Turn::Get(i) => rt.println(Answer(get::<Q, S>(s, i))),
@@ -40,9 +37,7 @@ fn make<Q: Quote, S: RawStream>(rt: &HostRuntime, s: &mut S, turn: Turn) -> io::
     }
 }
 
-fn run<Q: Quote, S: RawStream>(rt: &HostRuntime, s: &mut S, turns: &[Turn]) -> io::Result<()>
-    requires { S.RawStream.ready s.old }
-{
+fn run<Q: Quote, S: RawStream>(rt: &HostRuntime, s: &mut S, turns: &[Turn]) -> io::Result<()> {
     for &turn in turns {
         make::<Q, S>(rt, s, turn)?;
     }
@@ -104,7 +99,7 @@ const TROUBLE: [(u8, u32); 9] = [
 
 pub fn in_trouble(rt: &HostRuntime) -> io::Result<()> {
     let mut slice = [1, 0, 2, 0];
-    let entries = TROUBLE.map(entry);
+    let entries = TROUBLE.map(Entry::from);
     on_slice(
         rt,
         "basis points over a scripted stream",
@@ -139,7 +134,7 @@ fn reads(rt: &HostRuntime, row: &[u8]) -> io::Result<()> {
 
 fn writes(rt: &HostRuntime, value: i32) -> io::Result<()> {
     let mut row = [0xee; 2];
-    let granted = BasisPoints::encode(value, &mut row);
+    let granted = BasisPoints::encode(value, &mut row).is_ok();
     println!(rt; "row of {value}: {granted},{}", Hex(&row))
 }
 

@@ -1,6 +1,5 @@
 // Calls on a stream as a table, run one after another; each prints its call and its answer.
 use crate::answer::{Answer, Done, Hex};
-use script::Entry;
 use std::{fmt, io};
 use stream::raw::RawStream;
 
@@ -31,16 +30,8 @@ impl fmt::Display for Step {
     }
 }
 
-// The entry of a script that a pair of a kind and a number stands for.
-pub fn entry((kind, n): (u8, u32)) -> Entry {
-    Entry { kind, n }
-}
-
 // A read prints the whole buffer, to show that what it does not fill stays.
-fn make<S: RawStream>(rt: &HostRuntime, s: &mut S, step: Step) -> io::Result<()>
-    requires { S.RawStream.ready s.old }
-    ensures { S.RawStream.ready s.new }
-{
+fn make<S: RawStream>(rt: &HostRuntime, s: &mut S, step: Step) -> io::Result<()> {
     print!(rt; "{step}: ")?;
     match step {
         Step::Read(k) => {
@@ -59,10 +50,7 @@ fn make<S: RawStream>(rt: &HostRuntime, s: &mut S, step: Step) -> io::Result<()>
     }
 }
 
-pub fn run<S: RawStream>(rt: &HostRuntime, s: &mut S, steps: &[Step]) -> io::Result<()>
-    requires { S.RawStream.ready s.old }
-    ensures { S.RawStream.ready s.new }
-{
+pub fn run<S: RawStream>(rt: &HostRuntime, s: &mut S, steps: &[Step]) -> io::Result<()> {
     for &step in steps {
         make(rt, s, step)?;
     }

@@ -1,8 +1,9 @@
 // The worked cases of streams.
 use crate::answer::{Answer, Done};
-use crate::steps::{Step, entry, run};
+use crate::steps::{Step, run};
 use calls::sizes::buffer_size;
 use memory::MemoryStream;
+use script::Entry;
 use scripted::ScriptedStream;
 use skip::HeaderSkip;
 use std::io;
@@ -61,9 +62,7 @@ fn titled<S: RawStream + Drop>(
     title: &str,
     mut s: S,
     steps: &[Step],
-) -> io::Result<()>
-    requires { S.RawStream.ready s }
-{
+) -> io::Result<()> {
     rt.println(title)?;
     run(rt, &mut s, steps)
 }
@@ -102,7 +101,7 @@ pub fn behind_header(rt: &HostRuntime) -> io::Result<()> {
 pub fn passed_on(rt: &HostRuntime) -> io::Result<()> {
     let title = "skip of 1 over a skip of 2 over a scripted stream";
     let mut slice = LETTERS;
-    let entries = TROUBLE.map(entry);
+    let entries = TROUBLE.map(Entry::from);
     let below = HeaderSkip::new(ScriptedStream::new(&mut slice, 8, &entries), 2);
     titled(rt, title, HeaderSkip::new(below, 1), &IN_TROUBLE)
 }
@@ -125,7 +124,7 @@ const CALLS: [Step; 9] = [
 // The call, and then what it left: where the stream stands, and what it shows.
 fn meets(rt: &HostRuntime, pair: (u8, u32), call: Step) -> io::Result<()> {
     let mut slice = *b"ABCD";
-    let entries = [(0, 9), pair].map(entry);
+    let entries = [(0, 9), pair].map(Entry::from);
     let mut s = ScriptedStream::new(&mut slice, 3, &entries);
     run(
         rt,

@@ -20,10 +20,7 @@ pub struct Editor<'a, Q, S> {
 }
 
 impl<'a, Q: Quote, S: RawStream> Editor<'a, Q, S> {
-    pub fn new(rt: &'a HostRuntime, stream: S, tenors: &'a [String]) -> Editor<'a, Q, S>
-        requires { S.RawStream.ready stream }
-        ensures { S.RawStream.ready result.stream }
-    {
+    pub fn new(rt: &'a HostRuntime, stream: S, tenors: &'a [String]) -> Editor<'a, Q, S> {
         Editor {
             rt,
             stream,
@@ -34,10 +31,7 @@ impl<'a, Q: Quote, S: RawStream> Editor<'a, Q, S> {
     }
 
     // Runs the command of each line of a text, and prints what is refused.
-    pub fn run(&mut self, text: &str) -> Result<(), RunError>
-        requires { S.RawStream.ready self.old.stream }
-        ensures { S.RawStream.ready self.new.stream }
-    {
+    pub fn run(&mut self, text: &str) -> Result<(), RunError> {
         for line in text.lines() {
             if let Err(e) = self.serve(line) {
                 self.tell(e)?;
@@ -50,10 +44,7 @@ impl<'a, Q: Quote, S: RawStream> Editor<'a, Q, S> {
     }
 
     // Runs the command of one line.
-    fn serve<'l>(&mut self, line: &'l str) -> Result<(), CommandError<'l>>
-        requires { S.RawStream.ready self.old.stream }
-        ensures { S.RawStream.ready self.new.stream }
-    {
+    fn serve<'l>(&mut self, line: &'l str) -> Result<(), CommandError<'l>> {
         match Command::parse(line)? {
             None => {}
             Some(Command::List) => self.list()?,
@@ -64,10 +55,7 @@ impl<'a, Q: Quote, S: RawStream> Editor<'a, Q, S> {
     }
 
     // Prints what was refused; a failure of the printing itself is passed on.
-    fn tell(&mut self, e: CommandError<'_>) -> io::Result<()>
-        requires { S.RawStream.ready self.old.stream }
-        ensures { S.RawStream.ready self.new.stream }
-    {
+    fn tell(&mut self, e: CommandError<'_>) -> io::Result<()> {
         if let CommandError::Io(e) = e {
             return Err(e);
         }
@@ -76,10 +64,7 @@ impl<'a, Q: Quote, S: RawStream> Editor<'a, Q, S> {
     }
 
     // Prints the quotes of all tenors, past those that are refused.
-    fn list(&mut self) -> io::Result<()>
-        requires { S.RawStream.ready self.old.stream }
-        ensures { S.RawStream.ready self.new.stream }
-    {
+    fn list(&mut self) -> io::Result<()> {
         for (index, name) in self.tenors.iter().enumerate() {
             if let Err(e) = self.show(Row::of_tenor(name.as_str(), index)) {
                 self.tell(e)?;
@@ -89,10 +74,7 @@ impl<'a, Q: Quote, S: RawStream> Editor<'a, Q, S> {
     }
 
     // Prints the quote of one row.
-    fn show<'r>(&mut self, row: Row<'r>) -> Result<(), CommandError<'r>>
-        requires { S.RawStream.ready self.old.stream }
-        ensures { S.RawStream.ready self.new.stream }
-    {
+    fn show<'r>(&mut self, row: Row<'r>) -> Result<(), CommandError<'r>> {
         let Row { name, number } = row;
         let value = get::<Q, S>(&mut self.stream, number).map_err(|why| row.refused(why))?;
         println!(self.rt; "{name:>8} {number:>8} {value:>8}")?;
@@ -100,10 +82,7 @@ impl<'a, Q: Quote, S: RawStream> Editor<'a, Q, S> {
     }
 
     // Puts a value, as it was typed, into a row that is there, flushes, and reads it back.
-    fn put<'r>(&mut self, row: Row<'r>, value: &'r str) -> Result<(), CommandError<'r>>
-        requires { S.RawStream.ready self.old.stream }
-        ensures { S.RawStream.ready self.new.stream }
-    {
+    fn put<'r>(&mut self, row: Row<'r>, value: &'r str) -> Result<(), CommandError<'r>> {
         let typed = value
             .parse::<i128>()
             .map_err(|_| CommandError::NoNumber(value))?;
@@ -122,9 +101,7 @@ pub fn changes<Q: Quote, S: RawStream, T: RawStream>(
     rt: &HostRuntime,
     old: &mut S,
     new: &mut T,
-) -> io::Result<u32>
-    requires { S.RawStream.ready old.old × T.RawStream.ready new.old }
-{
+) -> io::Result<u32> {
     let mut count = 0u32;
     for row in 0..u32::MAX {
         let Ok(was) = get::<Q, S>(old, row) else {

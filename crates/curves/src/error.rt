@@ -1,9 +1,12 @@
 // Why a command was refused, and why a run left the file as it was.
+ghost use Rattle.std.specs.Prelude.{◌≡◌};
+ghost use Rattle.curves.specs.declared.error.RunError.TheVariants.{Io};
+
 use rows::refusal::RowRefusal;
 use std::error::Error;
 use std::{fmt, io};
 
-#[derive(Clone, Copy)]
+#[derive(Clone, Copy, Debug)]
 pub enum CommandError<'a> {
     // a line that is no command
     NoCommand(&'a str),
@@ -31,6 +34,8 @@ impl fmt::Display for CommandError<'_> {
     }
 }
 
+impl Error for CommandError<'_> {}
+
 impl From<io::Error> for CommandError<'_> {
     fn from(e: io::Error) -> Self {
         CommandError::Io(e)
@@ -48,8 +53,8 @@ pub enum RunError {
 impl fmt::Display for RunError {
     fn fmt<W: fmt::Write>(&self, f: &mut fmt::Formatter<W>) -> fmt::Result {
         match self {
-            RunError::Left => write!(f, "the file is left as it was"),
-            RunError::Io(e) => write!(f, "{e}"),
+            RunError::Left => f.write_str("the file is left as it was"),
+            RunError::Io(why) => write!(f, "{why}"),
         }
     }
 }
@@ -57,6 +62,8 @@ impl fmt::Display for RunError {
 impl Error for RunError {}
 
 impl From<io::Error> for RunError {
+    ghost from_gives = { λ e x. x ≡ Io e };
+
     fn from(e: io::Error) -> RunError {
         RunError::Io(e)
     }

@@ -1,8 +1,6 @@
 // Patches the quotes of a curve file by commands, and replaces the file only where everything was granted.
 #![tactic(auto)]
 
-ghost use Rattle.memory.specs.Memory.{InMemory};
-
 use calls::sizes::buffer_size;
 use editor::Editor;
 use memory::MemoryStream;
@@ -34,9 +32,7 @@ fn left<T>(rt: &HostRuntime, why: impl Display + Drop) -> Result<T, RunError> {
 }
 
 // A stream on all bytes of a slice.
-fn whole(bytes: &mut [u8]) -> MemoryStream<'_>
-    ensures { InMemory result }
-{
+fn whole(bytes: &mut [u8]) -> MemoryStream<'_> {
     let len = bytes.len();
     MemoryStream::new(bytes, len)
 }
