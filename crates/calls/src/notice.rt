@@ -28,7 +28,7 @@ impl Origin {
 }
 
 impl Refusal {
-    // Its number, 1 to 12.
+    // Its number, 1 to 12. It tells a part of the refusal, as `code` does: so it is no `From`, which would turn the whole of it.
     pub fn number(self) -> u8
         ensures { result ≡ (notice self).number }
     {

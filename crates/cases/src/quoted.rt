@@ -10,7 +10,7 @@ use scripted::ScriptedStream;
 use std::{fmt, io};
 use stream::raw::RawStream;
 
-// Puts, gets and patches of rows as a table.
+// Puts, gets and patches of rows as a table: values and no closures, since a turn prints its call too.
 #[derive(Clone, Copy, Debug, PartialEq, Eq)]
 enum Turn {
     Get(u32),

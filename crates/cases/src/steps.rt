@@ -3,6 +3,7 @@ use crate::answer::{Answer, Done, Hex};
 use std::{fmt, io};
 use stream::raw::RawStream;
 
+// A value and no closure, since a step prints its call too.
 #[derive(Clone, Copy, Debug, PartialEq, Eq)]
 pub enum Step {
     // into a buffer of so many bytes, 8 at most

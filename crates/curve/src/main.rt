@@ -54,7 +54,7 @@ fn start(rt: &HostRuntime) -> anyhow::Result<()> {
     Ok(())
 }
 
-// A refusal is one line on standard error, and status 1.
+// A refusal is one line on standard error, and status 1: an error that main returns would be told in other words.
 fn main(rt: HostRuntime) -> anyhow::Result<ExitCode> {
     match start(&rt) {
         Ok(()) => Ok(ExitCode::SUCCESS),

@@ -102,6 +102,7 @@ pub fn changes<Q: Quote, S: RawStream, T: RawStream>(
     old: &mut S,
     new: &mut T,
 ) -> io::Result<u32> {
+    // how many differ: no index, and no chain, since each is printed
     let mut count = 0u32;
     for row in 0..u32::MAX {
         let Ok(was) = get::<Q, S>(old, row) else {

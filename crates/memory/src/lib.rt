@@ -84,6 +84,7 @@ impl<'a> MemoryStream<'a> {
     }
 }
 
+// A call that promises more than the trait has to repeat the trait's clauses.
 impl<'a> RawStream for MemoryStream<'a> {
     ghost use Rattle.std.specs.Prelude.{Ok, refl};
     ghost use Rattle.calls.specs.Places.{whence_for, size_of};

@@ -1,5 +1,5 @@
 -- Laws of rows over streams: bytes read on and laid on, a row got, put, and put back.
-use Rattle.std.proofs.Common.{◌≡◌, ℕ, ◌+◌, ◌-◌, ◌^◌, ◌<◌, ◌≤◌, true, leb, List, length, get_or, take, drop, ℤ, pos, ◌+ℤ◌, IsErrAnd, Some, None, Ok, Err, Option, Result, option_map, sym, refl, ap, ◌∙◌, subst, inl, inr, ⊎_elim, arith, length-append, length-drop, length-take, w32, w64, SFits, to_z, of_z, rules}
+use Rattle.std.proofs.Common.{◌≡◌, ℕ, ◌+◌, ◌-◌, ◌^◌, ◌<◌, ◌≤◌, true, leb, List, length, get_or, take, drop, ℤ, pos, ◌+ℤ◌, IsErrAnd, MatchResult, Some, None, Ok, Err, Option, Result, option_map, sym, refl, ap, ◌∙◌, subst, inl, inr, ⊎_elim, arith, length-append, length-drop, length-take, w32, w64, SFits, to_z, of_z, rules}
 use borrow.Rule.Slice.PartMut.{put_mid}
 use Rattle.std.specs.Option.{ok_or}
 use Rattle.std.proofs.lemmas.List.{take_all, ext_get_or, get_or-take, get_or-drop}
@@ -53,6 +53,11 @@ lay_more s t u row n m sound le p w =
     let x = p.moved in
     let k = p.kept.limit_same in
     (q.1, q.0, omega arith)
+
+-- what is granted is granted below
+pub given : {X E : Type 0} (r : Result X E) (v : X) → MatchResult r (λ x. ◌≡◌ {A = Result X PutRefusal} (Ok v) (Ok x)) (λ e. ⊥) → r ≡ Ok v
+given (Ok x) v m = let e : x ≡ v = cc in ap Ok e
+given (Err e) v m = absurd m
 
 -- ── what a call is passed ──
 

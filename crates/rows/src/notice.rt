@@ -7,7 +7,7 @@ use std::error::Error;
 use std::fmt;
 
 impl RowRefusal {
-    // Its number, 13 to 15 for a row's own, else the stream's.
+    // Its number, 13 to 15 for a row's own, else the stream's: a part of it, and so no `From`.
     pub fn number(self) -> u8
         ensures { result ≡ (row_notice self).number }
     {

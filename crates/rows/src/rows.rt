@@ -10,7 +10,7 @@ use quotes::quote::Quote;
 use std::convert::AsSlice;
 use stream::raw::RawStream;
 
-// Reads on until the row is full, or to the end. It goes on by as many bytes as the stream gave, so no iterator counts them.
+// Reads on until the row is full, or to the end. It goes on by as many bytes as the stream gave, which no iterator knows.
 fn fill<S: RawStream>(s: &mut S, row: &mut [u8]) -> Result<usize, Refusal>
     ensures rule { Filled (S.RawStream.view s.old) (S.RawStream.view s.new) row.old row.new result }
     ensures said { Source Call.ReadInto (S.RawStream.view s.new).position (S.RawStream.pile s.new).places result }
@@ -26,7 +26,7 @@ fn fill<S: RawStream>(s: &mut S, row: &mut [u8]) -> Result<usize, Refusal>
     Ok(n)
 }
 
-// Writes on until all of the row is taken, each time from the byte after those that the stream took.
+// Writes on until all of the row is taken, each time from the byte after those that the stream took, which no iterator knows.
 fn lay<S: RawStream>(s: &mut S, row: &[u8]) -> Result<(), PutRefusal>
     requires { 0 < length row.now }
     ensures rule { LaidOn row.now (S.RawStream.view s.old) (S.RawStream.view s.new) result }
@@ -34,13 +34,10 @@ fn lay<S: RawStream>(s: &mut S, row: &[u8]) -> Result<(), PutRefusal>
 {
     let mut n = 0;
     while n < row.len() {
-        match s.write(&row[n..]) {
-            Ok(m) => n += m,
-            Err(e) => return Err(PutRefusal {
-                why: e.into(),
-                fresh: n,
-            }),
-        }
+        n += s.write(&row[n..]).map_err(|e| PutRefusal {
+            why: e.into(),
+            fresh: n,
+        })?;
     }
     Ok(())
 }
@@ -95,7 +92,7 @@ pub fn patch<Q: Quote, S: RawStream>(s: &mut S, i: u32, value: i32) -> Result<i3
     ensures said { PutSaid (Call.Seek ∷ (Call.Write ∷ (Call.Flush ∷ (Call.ReadInto ∷ [])))) (S.RawStream.view s.new) (S.RawStream.pile s.new) result }
 {
     put::<Q, S>(s, i, value)?;
-    // no proof can name what a closure at `map_err` answers, so the refusals after the put are matched
+    // refusals after the put are matched, since no answer by hand can name what a closure at `map_err` gives
     if let Err(e) = s.flush() {
         return Err(PutRefusal {
             why: e.into(),

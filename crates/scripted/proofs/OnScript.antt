@@ -1,6 +1,6 @@
 -- A stream under a script: the stream's own rules, and what the script adds.
-use Rattle.std.proofs.Common.{◌≡◌, ℕ, ◌+◌, ◌-◌, ◌^◌, ◌<◌, ◌≤◌, min, Bool, true, false, cond, eqb, ◌⊎◌, List, [], ◌∷◌, ◌++◌, length, take, drop, IsErrAnd, Ok, Err, Result, sym, refl, ap, ◌∙◌, subst, inl, arith, length-take, rules}
-use Rattle.std.proofs.lemmas.List.{places, ext_get_or, take-take, take-append-drop}
+use Rattle.std.proofs.Common.{◌≡◌, ℕ, ◌-◌, ◌^◌, ◌<◌, min, Bool, true, false, cond, eqb, ◌⊎◌, List, [], ◌∷◌, ◌++◌, length, take, drop, IsErrAnd, Ok, Err, Result, sym, refl, ap, ◌∙◌, subst, inl, arith, length-take, rules}
+use Rattle.std.proofs.lemmas.List.{places, ext_get_or, take-append-drop}
 use Rattle.std.proofs.lemmas.Bool.{and_parts}
 use Rattle.std.proofs.lemmas.Bool.Decides.{nat_tests}
 use Rattle.calls.specs.declared.refusal.Call.{Call}
@@ -74,12 +74,13 @@ refused_under R P Q s t es fs e u f used r = record { still = still_under s t es
 -- ── a call that the script refuses ──
 
 -- the script's refusal names this stream
-pub refused_leaves : {X : Type 0} (c : Call) (m n : MemoryStream) (es fs : List Entry) (e : Refusal) (r : Result X Refusal) → n ≡ m → Err e ≡ verdict es (own c m.pos) → IsErrAnd r (λ x. x ≡ e) →
-    Leaves {X = X} c (under fs (memory n)) (cut_short (memory_pile m)) (cut_short (memory_pile n)) r
-refused_leaves c m n es fs e r same is out =
+pub refused_leaves : {X : Type 0} (c : Call) (m : MemoryStream) (es fs : List Entry) (at : ℕ) (e : Refusal) (r : Result X Refusal) → Err e ≡ verdict es (own c at) → at ≡ m.pos → IsErrAnd r (λ x. x ≡ e) →
+    Leaves {X = X} c (under fs (memory m)) (cut_short (memory_pile m)) (cut_short (memory_pile m)) r
+refused_leaves c m es fs at e r said here out =
     let o = own c m.pos in
+    let is : Err e ≡ verdict es o = said ∙ ap (λ (p : ℕ). verdict es (own c p)) here in
     let fair : Fair ⊥ ⊥ (under es (memory m)) o (Err e) = subst (Fair ⊥ ⊥ (under es (memory m)) o) (sym is) (fair_verdict ⊥ ⊥ (under es (memory m)) o es) in
-    rw (same, residual r e out) (record { piled = record { headers_same = refl; whole_same = refl }; source = blames_map (λ x. x ≡ o) (λ x. (x ≡ o) ⊎ Passed c [] x) (λ x h. inl h) e fair.1 })
+    rw (residual r e out) (record { piled = record { headers_same = refl; whole_same = refl }; source = blames_map (λ x. x ≡ o) (λ x. (x ≡ o) ⊎ Passed c [] x) (λ x h. inl h) e fair.1 })
 
 -- ── a call that it grants ──
 
@@ -100,23 +101,3 @@ read_under s t es fs buf out k most (Ok n) u used is some q =
     }
 read_under s t es fs buf out k most (Err e) u used is some q =
     (ap (λ (o : List ℕ). o ++ drop k buf) q.0 ∙ take-append-drop k buf, refused_under ⊥ ⊥ ⊥ s t es fs e u (λ x. x) used q.1)
-
--- a write of the front of the bytes, all of which fit
-pub write_under : (s t : Stream) (es fs : List Entry) (buf : List ℕ) (k most : ℕ) (r : Result ℕ Refusal) → s.steady ≡ true → fs ≡ drop 1 es → k ≡ min (length buf) most → 0 < most → s.position + length buf ≤ s.limit → st.Write s t (take k buf) r → st.Write (under es s) (under fs t) buf r
-write_under s t es fs buf k most (Ok n) u used is some fits q =
-    let l : length (take k buf) ≡ k = simp length-take (omega arith) in
-    let c = q.count in
-    record {
-      kept = kept_under s t es fs used q.kept;
-      fits = fits;
-      count = omega arith;
-      some = λ z. let y = q.some z in omega arith;
-      shown_laid = q.shown_laid ∙ ap (laid s.shown s.position) (take-take n k buf (omega arith));
-      moved = q.moved;
-    }
-write_under s t es fs buf k most (Err e) u used is some fits q =
-    let l : length (take k buf) ≡ k = simp length-take (omega arith) in
-    refused_under ⊥ (s.limit < s.position + length (take k buf)) (s.limit < s.position + length buf) s t es fs e u (λ h. omega arith) used q
-
-pub fits_within : (at place limit top n : ℕ) → at ≡ place → limit ≡ top → place ≤ top → n ≤ limit - at → place + n ≤ top
-fits_within at place limit top n here is h fits = omega arith

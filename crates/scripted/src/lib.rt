@@ -33,17 +33,9 @@ impl<'a> ScriptedStream<'a> {
             script: Script::new(entries),
         }
     }
-
-    // Uses the entry of a call: how many bytes it may move, or why it is refused.
-    fn next(&mut self, call: Call) -> Result<usize, Refusal>
-        ensures memory { self.new.memory ≡ self.old.memory }
-        ensures answer { result ≡ verdict (entries_left self.old.script) (own call (scripted self.old).position) }
-        ensures used { entries_left self.new.script ≡ drop 1 (entries_left self.old.script) }
-    {
-        self.script.next(call, self.memory.position())
-    }
 }
 
+// A call that promises more than the trait has to repeat the trait's clauses.
 impl<'a> RawStream for ScriptedStream<'a> {
     ghost view = { scripted };
 
@@ -61,7 +53,7 @@ impl<'a> RawStream for ScriptedStream<'a> {
         ensures answer { result ≡ granting (verdict (entries_left self.old.script) (own Call.ReadInto (scripted self.old).position)) (at_most (all_read (scripted self.old) (length buf.old))) }
         ensures used { entries_left self.new.script ≡ drop 1 (entries_left self.old.script) }
     {
-        let most = self.next(Call::ReadInto)?;
+        let most = self.script.next(Call::ReadInto, self.memory.position())?;
         let k = buf.len().min(most);
         self.memory.readinto(&mut buf[..k])
     }
@@ -74,8 +66,8 @@ impl<'a> RawStream for ScriptedStream<'a> {
         ensures answer { result ≡ granting (verdict (entries_left self.old.script) (own Call.Write (scripted self.old).position)) (at_most (all_written (scripted self.old) (length buf.now))) }
         ensures used { entries_left self.new.script ≡ drop 1 (entries_left self.old.script) }
     {
-        let most = self.next(Call::Write)?;
         let pos = self.memory.position();
+        let most = self.script.next(Call::Write, pos)?;
         if buf.len() as u64 > self.memory.limit() - pos {
             return Err(Refusal::PastLimit(Origin::own(Call::Write, pos)));
         }
@@ -92,7 +84,7 @@ impl<'a> RawStream for ScriptedStream<'a> {
         ensures used { (whence_for whence ≢ None) → entries_left self.new.script ≡ drop 1 (entries_left self.old.script) }
     {
         Whence::try_from(whence)?;
-        self.next(Call::Seek)?;
+        self.script.next(Call::Seek, self.memory.position())?;
         self.memory.seek(target, whence)
     }
 
@@ -103,7 +95,7 @@ impl<'a> RawStream for ScriptedStream<'a> {
         ensures answer { result ≡ granting (verdict (entries_left self.old.script) (own Call.Tell (scripted self.old).position)) (λ _. Ok (scripted self.old).position) }
         ensures used { entries_left self.new.script ≡ drop 1 (entries_left self.old.script) }
     {
-        self.next(Call::Tell)?;
+        self.script.next(Call::Tell, self.memory.position())?;
         self.memory.tell()
     }
 
@@ -113,7 +105,7 @@ impl<'a> RawStream for ScriptedStream<'a> {
         ensures answer { result ≡ granting (verdict (entries_left self.old.script) (own Call.Truncate (scripted self.old).position)) (λ _. cut_answer (scripted self.old) size) }
         ensures used { entries_left self.new.script ≡ drop 1 (entries_left self.old.script) }
     {
-        self.next(Call::Truncate)?;
+        self.script.next(Call::Truncate, self.memory.position())?;
         self.memory.truncate(size)
     }
 
@@ -124,7 +116,7 @@ impl<'a> RawStream for ScriptedStream<'a> {
         ensures answer { result ≡ granting (verdict (entries_left self.old.script) (own Call.Flush (scripted self.old).position)) (λ _. Ok tt) }
         ensures used { entries_left self.new.script ≡ drop 1 (entries_left self.old.script) }
     {
-        self.next(Call::Flush)?;
+        self.script.next(Call::Flush, self.memory.position())?;
         self.memory.flush()
     }
 

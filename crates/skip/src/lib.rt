@@ -72,6 +72,7 @@ impl<S: RawStream> HeaderSkip<S> {
     }
 }
 
+// A call that promises more than the trait has to repeat the trait's clauses.
 impl<S: RawStream> RawStream for HeaderSkip<S> {
     ghost use Rattle.calls.specs.Places.{whence_for, size_of, within};
     ghost use Rattle.calls.specs.Refusal.{own};

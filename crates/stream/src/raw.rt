@@ -25,7 +25,8 @@ pub trait RawStream {
         ensures rule { Write (view self.old) (view self.new) buf.now result }
         ensures whole { Whole (pile self.old) (view self.old) (length buf.now) result };
 
-    // Goes to a target past the start, the position or the end (whence 0, 1, 2), and answers the new position.
+    // Goes to a target past the start, the position or the end (whence 0, 1, 2), and answers the new position. The whence is a number,
+    // since any other one is to be refused by 6.
     fn seek(&mut self, target: i64, whence: i32) -> Result<u64, Refusal>
         ensures leaves { Leaves Call.Seek (view self.new) (pile self.old) (pile self.new) result }
         ensures rule { SeekBy (view self.old) (view self.new) target (whence_for whence) result };
