@@ -105,7 +105,7 @@ fn settings(rt: &HostRuntime, case: &Case) -> io::Result<Settings> {
     })
 }
 
-// Prints what came of a run.
+// Prints what came of a run: at this one place, so that no type has a Display for it.
 fn tell(rt: &HostRuntime, run: Result<u32, RunError>) -> io::Result<()> {
     match run {
         Ok(0) => println!(rt; "same"),
