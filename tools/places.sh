@@ -27,7 +27,7 @@ count "a number raised by hand" '(saturating_add\(1\)|used \+ 1|[a-z] \+= )'
 echo "4 written by hand"
 count "printing" '(print|println|eprintln)!?\('
 count "a copy made for printing" 'let ([a-z]+) = (\*\1|[a-z]+\.\1);'
-count "Display" 'Display for'
+count "Display" '^impl.*Display for'
 count "From and TryFrom" 'impl.* (From|TryFrom)<'
 count "a conversion by a function" 'fn (whence_of|or_empty|command_of|row_of|named|number)\b'
 echo "5 facts and parameters that go together"

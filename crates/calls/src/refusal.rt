@@ -35,10 +35,10 @@ pub enum Refusal {
     PastLimit(Origin),
 }
 
-// What a seek counts from: the start, the position or the end of the bytes shown.
+// What a seek counts from: the start, the position or the end of the bytes shown. As numbers they are 0, 1 and 2.
 #[derive(Clone, Copy, Debug, PartialEq, Eq)]
 pub enum Whence {
-    Start,
-    Current,
-    End,
+    Start = 0,
+    Current = 1,
+    End = 2,
 }

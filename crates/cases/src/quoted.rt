@@ -28,6 +28,7 @@ impl fmt::Display for Turn {
     }
 }
 
+// As for steps, the runtime and the stream are no struct.
 fn make<Q: Quote, S: RawStream>(rt: &HostRuntime, s: &mut S, turn: Turn) -> io::Result<()> {
     print!(rt; "{turn}: ")?;
     match turn {
@@ -37,6 +38,7 @@ fn make<Q: Quote, S: RawStream>(rt: &HostRuntime, s: &mut S, turn: Turn) -> io::
     }
 }
 
+// The loop of `steps::run`: one for both would take a closure for its one line.
 fn run<Q: Quote, S: RawStream>(rt: &HostRuntime, s: &mut S, turns: &[Turn]) -> io::Result<()> {
     for &turn in turns {
         make::<Q, S>(rt, s, turn)?;
@@ -85,27 +87,26 @@ const CUT_SHORT: [Turn; 4] = [
     Turn::Patch(1, -25),
 ];
 
-const TROUBLE: [(u8, u32); 9] = [
-    (0, 9),
-    (0, 1),
-    (0, 1),
-    (0, 9),
-    (0, 1),
-    (1, 0),
-    (0, 9),
-    (0, 1),
-    (3, 4),
+const TROUBLE: [Entry; 9] = [
+    Entry::AtMost(9),
+    Entry::AtMost(1),
+    Entry::AtMost(1),
+    Entry::AtMost(9),
+    Entry::AtMost(1),
+    Entry::NotNow,
+    Entry::AtMost(9),
+    Entry::AtMost(1),
+    Entry::Fault(4),
 ];
 
 pub fn in_trouble(rt: &HostRuntime) -> io::Result<()> {
     let mut slice = [1, 0, 2, 0];
-    let entries = TROUBLE.map(Entry::from);
     on_slice(
         rt,
         "basis points over a scripted stream",
         &mut slice,
         |slice| {
-            run::<BasisPoints, _>(rt, &mut ScriptedStream::new(slice, 4, &entries), &CUT_SHORT)
+            run::<BasisPoints, _>(rt, &mut ScriptedStream::new(slice, 4, &TROUBLE), &CUT_SHORT)
         },
     )
 }

@@ -31,7 +31,8 @@ impl fmt::Display for Step {
     }
 }
 
-// A read prints the whole buffer, to show that what it does not fill stays.
+// A read prints the whole buffer, to show that what it does not fill stays. The runtime and the stream are no struct here and below: one
+// call hands both on, and no more is done with them.
 fn make<S: RawStream>(rt: &HostRuntime, s: &mut S, step: Step) -> io::Result<()> {
     print!(rt; "{step}: ")?;
     match step {

@@ -54,7 +54,12 @@ const ALL_HEADER: [Step; 3] = [Step::Limit, Step::Read(1), Step::Write(b"x")];
 const IN_TROUBLE: [Step; 4] = [Step::Read(2), Step::Flush, Step::Read(2), Step::Read(2)];
 
 // A seek below that is granted and a read of one byte, then a fault, then not now, and after the list all is granted.
-const TROUBLE: [(u8, u32); 4] = [(0, 5), (0, 1), (3, 77), (1, 0)];
+const TROUBLE: [Entry; 4] = [
+    Entry::AtMost(5),
+    Entry::AtMost(1),
+    Entry::Fault(77),
+    Entry::NotNow,
+];
 
 // Prints the title, and runs the steps over the stream.
 fn titled<S: RawStream + Drop>(
@@ -101,12 +106,11 @@ pub fn behind_header(rt: &HostRuntime) -> io::Result<()> {
 pub fn passed_on(rt: &HostRuntime) -> io::Result<()> {
     let title = "skip of 1 over a skip of 2 over a scripted stream";
     let mut slice = LETTERS;
-    let entries = TROUBLE.map(Entry::from);
-    let below = HeaderSkip::new(ScriptedStream::new(&mut slice, 8, &entries), 2);
+    let below = HeaderSkip::new(ScriptedStream::new(&mut slice, 8, &TROUBLE), 2);
     titled(rt, title, HeaderSkip::new(below, 1), &IN_TROUBLE)
 }
 
-// Each kind of entry, and each call that it may meet, on a stream of its own at position 1.
+// Each kind of entry, by its number, and each call that it may meet, on a stream of its own at position 1.
 const KINDS: [(u8, u32); 6] = [(0, 1), (0, 0), (1, 5), (2, 6), (3, 7), (255, 8)];
 
 const CALLS: [Step; 9] = [
@@ -122,9 +126,9 @@ const CALLS: [Step; 9] = [
 ];
 
 // The call, and then what it left: where the stream stands, and what it shows.
-fn meets(rt: &HostRuntime, pair: (u8, u32), call: Step) -> io::Result<()> {
+fn meets(rt: &HostRuntime, entry: Entry, call: Step) -> io::Result<()> {
     let mut slice = *b"ABCD";
-    let entries = [(0, 9), pair].map(Entry::from);
+    let entries = [Entry::AtMost(9), entry];
     let mut s = ScriptedStream::new(&mut slice, 3, &entries);
     run(
         rt,
@@ -142,7 +146,7 @@ fn meets(rt: &HostRuntime, pair: (u8, u32), call: Step) -> io::Result<()> {
 fn at_each_call(rt: &HostRuntime, (kind, n): (u8, u32)) -> io::Result<()> {
     println!(rt; "entry {kind}:{n}")?;
     for call in CALLS {
-        meets(rt, (kind, n), call)?;
+        meets(rt, Entry::from((kind, n)), call)?;
     }
     Ok(())
 }

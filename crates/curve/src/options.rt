@@ -12,6 +12,7 @@ fn number(flag: &str, word: Option<String>) -> anyhow::Result<i64> {
 
 // Takes the arguments, and answers none where help is asked for or no file is named. Ranges are tested where they are used.
 pub fn read(rt: &HostRuntime) -> anyhow::Result<Option<Settings>> {
+    // help is given only once all words are looked at, so that a wrong one is still told
     let mut help = false;
     let mut path = None;
     let mut header = 0;

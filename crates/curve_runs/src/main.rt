@@ -105,7 +105,7 @@ fn settings(rt: &HostRuntime, case: &Case) -> io::Result<Settings> {
     })
 }
 
-// Prints what came of a run: at this one place, so that no type has a Display for it.
+// Prints what came of a run: at this one place, so that no type serves it.
 fn tell(rt: &HostRuntime, run: Result<u32, RunError>) -> io::Result<()> {
     match run {
         Ok(0) => println!(rt; "same"),
@@ -115,7 +115,7 @@ fn tell(rt: &HostRuntime, run: Result<u32, RunError>) -> io::Result<()> {
     }
 }
 
-// Prints what came of a run on a new file, and what the file then holds.
+// Prints what came of a run on a new file, and what the file then holds, at this one place too.
 fn go(rt: &HostRuntime, case: &Case) -> io::Result<()> {
     fs::write(rt, "tried.curve", OLD)?;
     tell(rt, curves::run(rt, &settings(rt, case)?, case.text))?;

@@ -14,8 +14,8 @@ pub struct Editor<'a, Q, S> {
     rt: &'a HostRuntime,
     stream: S,
     tenors: &'a [String],
-    // something was refused, and told
-    refused: bool,
+    // what came of the commands so far
+    outcome: Result<(), RunError>,
     kind: PhantomData<Q>,
 }
 
@@ -25,7 +25,7 @@ impl<'a, Q: Quote, S: RawStream> Editor<'a, Q, S> {
             rt,
             stream,
             tenors,
-            refused: false,
+            outcome: Ok(()),
             kind: PhantomData,
         }
     }
@@ -33,14 +33,9 @@ impl<'a, Q: Quote, S: RawStream> Editor<'a, Q, S> {
     // Runs the command of each line of a text, and prints what is refused.
     pub fn run(&mut self, text: &str) -> Result<(), RunError> {
         for line in text.lines() {
-            if let Err(e) = self.serve(line) {
-                self.tell(e)?;
-            }
+            self.serve(line).or_else(|e| self.tell(e))?;
         }
-        if self.refused {
-            return Err(RunError::Left);
-        }
-        Ok(())
+        self.outcome
     }
 
     // Runs the command of one line.
@@ -59,16 +54,15 @@ impl<'a, Q: Quote, S: RawStream> Editor<'a, Q, S> {
         if let CommandError::Io(e) = e {
             return Err(e);
         }
-        self.refused = true;
+        self.outcome = Err(RunError::Left);
         println!(self.rt; "{e}")
     }
 
     // Prints the quotes of all tenors, past those that are refused.
     fn list(&mut self) -> io::Result<()> {
         for (index, name) in self.tenors.iter().enumerate() {
-            if let Err(e) = self.show(Row::of_tenor(name.as_str(), index)) {
-                self.tell(e)?;
-            }
+            self.show(Row::of_tenor(name.as_str(), index))
+                .or_else(|e| self.tell(e))?;
         }
         Ok(())
     }

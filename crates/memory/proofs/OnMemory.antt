@@ -18,14 +18,14 @@ read_file bytes buf out len place n ok is got =
 -- ── writing ──
 
 -- the bytes after zeros are laid from one place to another
-abbrev pub cleared : List ℕ → ℕ → ℕ → List ℕ
+abbrev cleared : List ℕ → ℕ → ℕ → List ℕ
 cleared bytes from to = take from bytes ++ (replicate (to - from) 0 ++ drop to bytes)
 
 -- the bytes after some are laid at a place
-abbrev pub pasted : List ℕ → ℕ → List ℕ → List ℕ
+abbrev pasted : List ℕ → ℕ → List ℕ → List ℕ
 pasted bytes at buf = take at bytes ++ (buf ++ drop (at + length buf) bytes)
 
-pub length-cleared : (bytes : List ℕ) (from to : ℕ) → from ≤ to → to ≤ length bytes → length (cleared bytes from to) ≡ length bytes
+length-cleared : (bytes : List ℕ) (from to : ℕ) → from ≤ to → to ≤ length bytes → length (cleared bytes from to) ≡ length bytes
 length-cleared bytes from to h l = search (rules, places)
 
 length-pasted : (bytes : List ℕ) (at : ℕ) (buf : List ℕ) → at + length buf ≤ length bytes → length (pasted bytes at buf) ≡ length bytes

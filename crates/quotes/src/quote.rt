@@ -13,7 +13,7 @@ pub struct Unwritable;
 
 impl fmt::Display for Unwritable {
     fn fmt<W: fmt::Write>(&self, f: &mut fmt::Formatter<W>) -> fmt::Result {
-        f.write_str("the kind cannot write this value")
+        f.write_str("the kind cannot write this value into this row")
     }
 }
 

@@ -54,18 +54,13 @@ lay_more s t u row n m sound le p w =
     let k = p.kept.limit_same in
     (q.1, q.0, omega arith)
 
--- what is granted is granted below
-pub given : {X E : Type 0} (r : Result X E) (v : X) → MatchResult r (λ x. ◌≡◌ {A = Result X PutRefusal} (Ok v) (Ok x)) (λ e. ⊥) → r ≡ Ok v
-given (Ok x) v m = let e : x ≡ v = cc in ap Ok e
-given (Err e) v m = absurd m
-
 -- ── what a call is passed ──
 
 -- a value, to its 32 bits and back
 abbrev passed : ℤ → ℤ
 passed value = to_z w32 (of_z w32 value)
 
-pub writes_passed : (writes : ℤ → Option (List ℕ)) (value : ℤ) → SFits w32 value → writes (passed value) ≡ writes value
+writes_passed : (writes : ℤ → Option (List ℕ)) (value : ℤ) → SFits w32 value → writes (passed value) ≡ writes value
 writes_passed writes value fits = ap writes (to_z-of_z w32 value fits)
 
 -- the row that a kind gives for a value is the one that the value writes
@@ -164,11 +159,6 @@ some_granted (Some row) p s t v put f = f row refl put
 -- a put that was granted had a row
 granted_row : {X : Type 0} (writes : ℤ → Option (List ℕ)) (value : ℤ) (p : ℕ) (s t : Stream) (v : Unit {0}) → SFits w32 value → PutRow (writes (passed value)) p s t (Ok v) → ((row : List ℕ) → writes value ≡ Some row → PutWhole row p s t → X) → X
 granted_row writes value p s t v fits put f = some_granted (writes value) p s t v (subst (λ (o : Option (List ℕ)). PutRow o p s t (Ok v)) (writes_passed writes value fits) put) f
-
--- what `?` hands on
-pub passed_on : {X : Type 0} (r : Result X PutRefusal) (x : PutRefusal) → IsErrAnd r (λ y. y ≡ x) → r ≡ Err x
-passed_on (Ok v) x h = absurd h
-passed_on (Err y) x h = ap Err h
 
 pub patch_unflushed : (writes : ℤ → Option (List ℕ)) (value : ℤ) (n p : ℕ) (s t u : Stream) (v : Unit {0}) (e : Refusal) → SFits w32 value → ((row : List ℕ) → writes value ≡ Some row → length row ≡ n) → PutRow (writes (passed value)) p s t (Ok v) → Refused t u ⊥ ⊥ e → PatchRow value (writes value) p s u (Err (record { why = Below e; fresh = n }))
 patch_unflushed writes value n p s t u v e fits size put r =

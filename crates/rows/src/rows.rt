@@ -5,12 +5,13 @@ ghost use Rattle.rows.specs.Moves.{Filled, LaidOn};
 ghost use Rattle.rows.specs.Rows.{GotRow, PutRow, PatchRow, GetSaid, PutSaid};
 
 use crate::refusal::{PutRefusal, RowRefusal};
-use calls::refusal::{Call, Refusal};
+use calls::refusal::{Call, Refusal, Whence};
 use quotes::quote::Quote;
 use std::convert::AsSlice;
 use stream::raw::RawStream;
 
-// Reads on until the row is full, or to the end. It goes on by as many bytes as the stream gave, which no iterator knows.
+// Reads on until the row is full, or to the end. It goes on by as many bytes as the stream gave, which no iterator knows; and the count
+// is the answer, so that a slice that got shorter would have to be counted back.
 fn fill<S: RawStream>(s: &mut S, row: &mut [u8]) -> Result<usize, Refusal>
     ensures rule { Filled (S.RawStream.view s.old) (S.RawStream.view s.new) row.old row.new result }
     ensures said { Source Call.ReadInto (S.RawStream.view s.new).position (S.RawStream.pile s.new).places result }
@@ -26,7 +27,8 @@ fn fill<S: RawStream>(s: &mut S, row: &mut [u8]) -> Result<usize, Refusal>
     Ok(n)
 }
 
-// Writes on until all of the row is taken, each time from the byte after those that the stream took, which no iterator knows.
+// Writes on until all of the row is taken, each time from the byte after those that the stream took; a refusal tells their count, as in
+// `fill`.
 fn lay<S: RawStream>(s: &mut S, row: &[u8]) -> Result<(), PutRefusal>
     requires { 0 < length row.now }
     ensures rule { LaidOn row.now (S.RawStream.view s.old) (S.RawStream.view s.new) result }
@@ -51,7 +53,7 @@ fn get_at<Q: Quote, S: RawStream>(s: &mut S, start: u64, row: &mut [u8]) -> Resu
     if start + row.len() as u64 > s.limit() {
         return Err(RowRefusal::Missing);
     }
-    s.seek(start as i64, 0)?;
+    s.seek(start as i64, Whence::Start as i32)?;
     if fill(s, row)? < row.len() {
         return Err(RowRefusal::Missing);
     }
@@ -82,7 +84,7 @@ pub fn put<Q: Quote, S: RawStream>(s: &mut S, i: u32, value: i32) -> Result<(), 
     ensures said { PutSaid (Call.Seek ∷ (Call.Write ∷ [])) (S.RawStream.view s.new) (S.RawStream.pile s.new) result }
 {
     let row = Q::row_of(value).ok_or(RowRefusal::Unwritable)?;
-    s.seek(start::<Q>(i) as i64, 0)?;
+    s.seek(start::<Q>(i) as i64, Whence::Start as i32)?;
     lay(s, row.as_slice())
 }
 
@@ -92,7 +94,8 @@ pub fn patch<Q: Quote, S: RawStream>(s: &mut S, i: u32, value: i32) -> Result<i3
     ensures said { PutSaid (Call.Seek ∷ (Call.Write ∷ (Call.Flush ∷ (Call.ReadInto ∷ [])))) (S.RawStream.view s.new) (S.RawStream.pile s.new) result }
 {
     put::<Q, S>(s, i, value)?;
-    // refusals after the put are matched, since no answer by hand can name what a closure at `map_err` gives
+    // matched, since the answer that the proof needs cannot name what a closure at `map_err` gives, and a generic function, which
+    // could tell the width, is not taken there yet
     if let Err(e) = s.flush() {
         return Err(PutRefusal {
             why: e.into(),

@@ -1,6 +1,6 @@
 -- A stream under a script: the stream's own rules, and what the script adds.
 use Rattle.std.proofs.Common.{◌≡◌, ℕ, ◌-◌, ◌^◌, ◌<◌, min, Bool, true, false, cond, eqb, ◌⊎◌, List, [], ◌∷◌, ◌++◌, length, take, drop, IsErrAnd, Ok, Err, Result, sym, refl, ap, ◌∙◌, subst, inl, arith, length-take, rules}
-use Rattle.std.proofs.lemmas.List.{places, ext_get_or, take-append-drop}
+use Rattle.std.proofs.lemmas.List.{places, ext_get_or, take-append-drop, length-take-le}
 use Rattle.std.proofs.lemmas.Bool.{and_parts}
 use Rattle.std.proofs.lemmas.Bool.Decides.{nat_tests}
 use Rattle.calls.specs.declared.refusal.Call.{Call}
@@ -87,7 +87,7 @@ refused_leaves c m es fs at e r said here out =
 -- a read into the front of the buffer, cut at the script's count
 pub read_under : (s t : Stream) (es fs : List Entry) (buf out : List ℕ) (k most : ℕ) (r : Result ℕ Refusal) → s.steady ≡ true → fs ≡ drop 1 es → k ≡ min (length buf) most → 0 < most → st.ReadInto s t (take k buf) out r → st.ReadInto (under es s) (under fs t) buf (out ++ drop k buf) r
 read_under s t es fs buf out k most (Ok n) u used is some q =
-    let l : length (take k buf) ≡ k = simp length-take (omega arith) in
+    let l = length-take-le k buf (omega arith) in
     let c = q.count_buf in
     let d = q.count_left in
     record {

@@ -1,5 +1,5 @@
 -- The header skip's rules, over the stream below.
-use Rattle.std.proofs.Common.{◌≡◌, ℕ, ◌+◌, ◌-◌, ◌^◌, ◌<◌, ◌≤◌, Bool, true, false, ◌||◌, eqb, List, ◌∷◌, ◌++◌, length, take, drop, ℤ, pos, Ok, Err, MatchBool, MatchResult, Result, sym, refl, ap, ◌∙◌, subst, inl, inr, ⊎_elim, arith, length-drop, w64, to_z}
+use Rattle.std.proofs.Common.{◌≡◌, ℕ, ◌+◌, ◌-◌, ◌^◌, ◌<◌, ◌≤◌, Bool, true, false, ◌||◌, eqb, List, ◌∷◌, ◌++◌, length, take, drop, ℤ, pos, IsErrAnd, Ok, Err, MatchBool, MatchResult, Result, sym, refl, ap, ◌∙◌, subst, inl, inr, ⊎_elim, arith, length-drop, w64, to_z}
 use Rattle.std.proofs.lemmas.List.{get_or-drop, drop-drop}
 use Rattle.std.proofs.lemmas.Int.{ints}
 use Rattle.calls.specs.declared.refusal.Call.{Call}
@@ -8,15 +8,11 @@ use Rattle.calls.specs.Refusal.{notice, own}
 use Rattle.stream.specs.Source.{Passed, Blames, Source, FromBelow}
 use Rattle.stream.specs.Stream.{Stream, Pile, Piled, Kept, Sound, Still, Leaves, Why, unsteady, Read, Wrote, Cut, Sought, ReadInto, Write, Truncate, Flush, Outside, laid, resized, At}
 use Rattle.stream.proofs.Bytes.{drop-laid, drop-resized}
-use Rattle.stream.proofs.Refusals.{as_source, Deepens, granted_up}
+use Rattle.stream.proofs.Refusals.{as_source, reaches_self, Deepens, granted_up, passed_up, residual}
 use Rattle.stream.proofs.Streams.{kept_then, why_deeper, cut_is}
 use Rattle.skip.specs.Skip.{skipped, skipped_pile, InSkip, Says}
 
 -- ── numbers ──
-
--- a place within a limit, as a signed number
-pub place_z : (n limit : ℕ) → n ≤ limit → limit ≤ 2 ^ 62 → to_z w64 n ≡ pos n
-place_z n limit le cap = omega (arith, ints)
 
 -- the place that was asked for is the one that was found
 pub found_at : (n v m : ℕ) → pos n ≡ pos v → m ≡ v → m ≡ n
@@ -59,7 +55,7 @@ pub leaves_up : {X : Type 0} (c : Call) (a b : Stream) (u v : Pile) (h h' p : �
 leaves_up c a b u v h h' p r e k f = record { piled = piled_skip a b u v h h' e k; source = source_up c p (b.position ∷ v.places) r f }
 
 -- a refusal, if it is one, is by 7 to 10
-abbrev pub Unsteady : {X : Type 0} → Stream → Result X Refusal → Type 0
+abbrev Unsteady : {X : Type 0} → Stream → Result X Refusal → Type 0
 Unsteady s r = MatchResult r (λ x. Unit {0}) (λ e. Why s ⊥ ⊥ (notice e).number)
 
 -- the same refusal one layer up, where 11 and 12 cannot be
@@ -77,6 +73,15 @@ pub says_up : {X : Type 0} (c : Call) (s : Stream) (p : ℕ) (places : List ℕ)
 says_up c s p places (Ok x) w f = tt
 says_up c s p places (Err e) w f =
     neither (eqb (notice e).number 11) (eqb (notice e).number 12) (unsteady (notice e).number) (s.steady ≡ true → ⊥) (Blames (λ o. o ≡ own c p) e) (Blames (λ o. Passed c places o) e) w f
+
+-- the same for a call below of the same name, whose refusal `?` hands on
+pub leaves_err : {X : Type 0} (c : Call) (a b : Stream) (u v : Pile) (h h' p : ℕ) (r r' : Result X Refusal) (e : Refusal) → h' ≡ h → Piled u v → Source c b.position v.places r → Deepens r (Err e) → IsErrAnd r' (λ x. x ≡ e) →
+    Leaves c (skipped b h' p) (skipped_pile a u h) (skipped_pile b v h') r'
+leaves_err c a b u v h h' p r r' e same k s d out = rw (residual r' e out) (leaves_up c a b u v h h' p (Err e) same k (passed_up c c b.position v.places r (Err e) (reaches_self c) s d))
+
+pub says_err : {X : Type 0} (c : Call) (R P : Type 0) (b t : Stream) (v : Pile) (p : ℕ) (r r' : Result X Refusal) (e : Refusal) → (R → ⊥) → (P → ⊥) → MatchResult r (λ x. Unit {0}) (λ e. Why b R P (notice e).number) → Source c t.position v.places r → Deepens r (Err e) → IsErrAnd r' (λ x. x ≡ e) →
+    Says c p (t.position ∷ v.places) r'
+says_err {X = X} c R P b t v p r r' e f g w s d out = rw (residual r' e out) (says_up {X = X} c b p (t.position ∷ v.places) (Err e) (unsteady_up R P b r (Err e) f g w d) (passed_up c c t.position v.places r (Err e) (reaches_self c) s d))
 
 -- why a call below was refused
 pub read_why : (s t : Stream) (buf out : List ℕ) (r : Result ℕ Refusal) → ReadInto s t buf out r → Unsteady s r
@@ -100,7 +105,7 @@ flush_why s t (Err e) h = h.why
 pub read_skip : (a b d : Stream) (h h' p p' n v : ℕ) (buf out : List ℕ) (r : Result ℕ Refusal) → Sound a → InSkip a h p → h' ≡ h → p' ≡ p → Sought a b (pos (h + p)) v → ReadInto b d buf out r → Deepens r (Ok n) →
     Read (skipped a h p) (skipped d h' (p' + n)) buf out n
 read_skip a b d h h' p p' n v buf out r sound ok e f to rule up =
-    let q : Read b d buf out n = subst (ReadInto b d buf out) (granted_up r n up) rule in
+    let q : Read b d buf out n = subst (ReadInto b d buf out) (granted_up Refusal r n up) rule in
     let same = to.shown_same in
     let at = found_at (h + p) v b.position to.goal_is to.moved in
     let l = length-drop h a.shown in
@@ -114,7 +119,7 @@ read_skip a b d h h' p p' n v buf out r sound ok e f to rule up =
 pub wrote_skip : (a b d : Stream) (h h' p p' n v : ℕ) (buf : List ℕ) (r : Result ℕ Refusal) → Sound a → InSkip a h p → h' ≡ h → p' ≡ p → Sought a b (pos (h + p)) v → Write b d buf r → Deepens r (Ok n) →
     Wrote (skipped a h p) (skipped d h' (p' + n)) buf n
 wrote_skip a b d h h' p p' n v buf r sound ok e f to rule up =
-    let q : Wrote b d buf n = subst (Write b d buf) (granted_up r n up) rule in
+    let q : Wrote b d buf n = subst (Write b d buf) (granted_up Refusal r n up) rule in
     let same = to.shown_same in
     let at = found_at (h + p) v b.position to.goal_is to.moved in
     let all = kept_then a b d sound same to.kept q.kept in
@@ -126,7 +131,7 @@ wrote_skip a b d h h' p p' n v buf r sound ok e f to rule up =
 
 pub cut_skip : (a d : Stream) (h p v w : ℕ) (goal to : ℤ) (r : Result ℕ Refusal) → goal ≡ pos v → to ≡ pos (h + v) → v ≤ a.limit - h → Truncate a d to r → Deepens r (Ok w) → Cut (skipped a h p) (skipped d h p) goal v
 cut_skip a d h p v w goal to r is below fits rule up =
-    let q = cut_is a d to (h + v) w below (subst (Truncate a d to) (granted_up r w up) rule) in
+    let q = cut_is a d to (h + v) w below (subst (Truncate a d to) (granted_up Refusal r w up) rule) in
     let shown : drop h d.shown ≡ resized (drop h a.shown) v = ap (drop h) q.shown_cut ∙ simp drop-resized in
     record { kept = kept_skip a d h p p q.kept; goal_is = is; fits = fits; shown_cut = shown; position_same = refl }
 

@@ -50,7 +50,9 @@ impl<S: RawStream> HeaderSkip<S> {
         ensures rule { Aligned (S.RawStream.view self.old.raw) (S.RawStream.view self.new.raw) (self.old.head + self.old.pos) result }
     {
         let place = self.head as u64 + self.pos;
-        self.raw.seek(place as i64, 0).map_err(Refusal::deeper)
+        self.raw
+            .seek(place as i64, Whence::Start as i32)
+            .map_err(Refusal::deeper)
     }
 
     // The place that a seek counts from: only the end is asked for below.
@@ -65,7 +67,10 @@ impl<S: RawStream> HeaderSkip<S> {
             Whence::Start => Ok(0),
             Whence::Current => Ok(self.pos),
             Whence::End => {
-                let end = self.raw.seek(0, 2).map_err(Refusal::deeper)?;
+                let end = self
+                    .raw
+                    .seek(0, Whence::End as i32)
+                    .map_err(Refusal::deeper)?;
                 Ok(end.saturating_sub(self.head as u64))
             }
         }

@@ -1,5 +1,6 @@
 -- Laws of refusals: a refusal passed on keeps its number, and names the stream that said so with one layer more.
 use Rattle.std.proofs.Common.{Ok, Err, Result, MatchResult, IsErrAnd, ◌≡◌, ℕ, suc, ◌+◌, ◌%◌, ◌^◌, true, ◌⊎◌, List, ◌∷◌, sym, refl, ap, ◌∙◌, subst, inl, inr, ⊎_elim, arith, rules}
+use Rattle.std.proofs.lemmas.Result.{err_from_is_err_and}
 use Rattle.calls.specs.declared.refusal.Call.{Call}
 use Rattle.calls.specs.declared.refusal.Call.TheVariants as call
 use Rattle.calls.specs.declared.refusal.Origin.{Origin}
@@ -59,7 +60,7 @@ settles_on call.Tell b s r = ap settles r
 settles_on call.Truncate b s r = ⊎_elim (λ e. ap settles e ∙ s) (λ h. h) r
 settles_on call.Flush b s r = ⊎_elim (λ e. ap settles e ∙ s) (λ h. h) r
 
-reaches_self : (a : Call) → Reaches a a
+pub reaches_self : (a : Call) → Reaches a a
 reaches_self call.ReadInto = inl refl
 reaches_self call.Write = inl refl
 reaches_self call.Seek = inl refl
@@ -91,9 +92,10 @@ pass_up a d at places e e' h b is = rw is (blames_deepened (λ o. (o ≡ own d a
 abbrev pub Deepens : {X : Type 0} → Result X Refusal → Result X Refusal → Type 0
 Deepens r r' = MatchResult r (λ x. r' ≡ Ok x) (λ e. IsErrAnd r' (λ e'. e' ≡ deepened e))
 
-pub granted_up : {X : Type 0} (r : Result X Refusal) (v : X) → Deepens r (Ok v) → r ≡ Ok v
-granted_up (Ok x) v d = sym d
-granted_up (Err e) v d = elim d [ ]
+-- what is granted here was granted below
+pub granted_up : {X E : Type 0} (F : Type 0) (r : Result X E) (v : X) → MatchResult r (λ x. ◌≡◌ {A = Result X F} (Ok v) (Ok x)) (λ e. ⊥) → r ≡ Ok v
+granted_up F (Ok x) v m = let e : x ≡ v = cc in ap Ok e
+granted_up F (Err e) v m = elim m [ ]
 
 -- the answer of the next stream below, as this layer passes it on
 pub passed_up : {X : Type 0} (a d : Call) (at : ℕ) (places : List ℕ) (r r' : Result X Refusal) → Reaches a d → Source d at places r → Deepens r r' → FromBelow a (at ∷ places) r'
@@ -106,9 +108,8 @@ pub as_source : (a : Call) (at : ℕ) (places : List ℕ) (e : Refusal) → Blam
 as_source a at places e b = blames_map (λ o. Passed a places o) (λ o. (o ≡ own a at) ⊎ Passed a places o) (λ o p. inr p) e b
 
 -- what `?` hands on
-pub residual : {X : Type 0} (r : Result X Refusal) (e : Refusal) → IsErrAnd r (λ x. x ≡ e) → r ≡ Err e
-residual (Ok x) e h = elim h [ ]
-residual (Err x) e h = ap Err h
+pub residual : {X E : Type 0} (r : Result X E) (e : E) → IsErrAnd r (λ x. x ≡ e) → r ≡ Err e
+residual r e h = let p = err_from_is_err_and r h in p.1 ∙ ap Err p.2
 
 -- a refusal from below of one call, as one of a call that reaches it
 pub below_as : (a d : Call) (places : List ℕ) (e : Refusal) → Reaches a d → Blames (λ o. Passed d places o) e → Blames (λ o. Passed a places o) e

@@ -1,7 +1,7 @@
 -- One call after another: the laws of bytes put and got by several calls.
 use Rattle.std.proofs.Common.{◌≡◌, ℕ, ◌+◌, ◌-◌, ◌<◌, ◌≤◌, min, ◌⊎◌, List, [], ◌++◌, length, take, drop, sym, refl, ap, ◌∙◌, subst, inl, inr, ⊎_elim, arith, length-append, length-drop, length-take, rules}
 use borrow.Rule.Slice.PartMut.{put_mid}
-use Rattle.std.proofs.lemmas.List.{take_at, drop_at, append_assoc, take_all, take-take, drop-take, take-append-drop, append-nil, drop_all, drop-drop}
+use Rattle.std.proofs.lemmas.List.{take_at, drop_at, append_assoc, take_all, take-take, drop-take, take-append-drop, append-nil, drop_all, drop-drop, length-take-le}
 use Rattle.std.proofs.lemmas.Bool.{cases_lt}
 use Rattle.stream.specs.Stream.{Stream, Sound, Read, Wrote, laid, At, left}
 use Rattle.stream.specs.Steps.{Put, Got}
@@ -14,13 +14,13 @@ pub put_none : (s : Stream) (buf : List ℕ) → Put s s (take 0 buf)
 put_none s buf = record { kept = kept_refl s; shown_laid = refl; moved = search rules }
 
 pub put_from : (s t : Stream) (buf : List ℕ) (n : ℕ) → Wrote s t buf n → Put s t (take n buf)
-put_from s t buf n w = let c = w.count in let l : length (take n buf) ≡ n = simp length-take (omega arith) in let m = w.moved in record { kept = w.kept; shown_laid = w.shown_laid; moved = omega arith }
+put_from s t buf n w = let c = w.count in let l = length-take-le n buf (omega arith) in let m = w.moved in record { kept = w.kept; shown_laid = w.shown_laid; moved = omega arith }
 
 pub put_then : (s t u : Stream) (buf : List ℕ) (n m : ℕ) → Sound s → n + m ≤ length buf → Put s t (take n buf) → Put t u (take m (drop n buf)) → Put s u (take (n + m) buf)
 put_then s t u buf n m sound le a b =
-    let l₁ : length (take n buf) ≡ n = simp length-take (omega arith) in
+    let l₁ = length-take-le n buf (omega arith) in
     let l₂ : length (take m (drop n buf)) ≡ m = simp (length-take, length-drop) (omega arith) in
-    let l₃ : length (take (n + m) buf) ≡ n + m = simp length-take (omega arith) in
+    let l₃ = length-take-le (n + m) buf (omega arith) in
     let x₁ = a.moved in
     let x₂ = b.moved in
     let e₁ : take n (take (n + m) buf) ≡ take n buf = take-take n (n + m) buf (omega arith) in
@@ -50,7 +50,7 @@ put_more s t u buf w e m sound le le₂ p x =
     (omega arith, put_then s t u buf w m sound (omega arith) p (subst (λ (xs : List ℕ). Put t u xs) same q))
 
 pub room_left : (s t : Stream) (buf : List ℕ) (w : ℕ) → Put s t (take w buf) → w ≤ length buf → s.position + length buf ≤ s.limit → t.position + (length buf - w) ≤ t.limit
-room_left s t buf w p le fits = let l : length (take w buf) ≡ w = simp length-take (omega arith) in let m = p.moved in let k = p.kept.limit_same in omega arith
+room_left s t buf w p le fits = let l = length-take-le w buf (omega arith) in let m = p.moved in let k = p.kept.limit_same in omega arith
 
 pub length_slice : (buf : List ℕ) (w e : ℕ) → e ≤ length buf → length (take (e - w) (drop w buf)) ≡ e - w
 length_slice buf w e h = simp (length-take, length-drop) (omega arith)

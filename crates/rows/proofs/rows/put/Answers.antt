@@ -1,6 +1,7 @@
 use Rattle.std.proofs.Common.{ℕ, ◌<◌, length, Some, ap, sym, ◌∙◌, subst, arith}
+use Rattle.stream.proofs.Refusals.{residual}
 use Rattle.rows.specs.Rows.{PutRow}
-use Rattle.rows.proofs.OnRows.{writes_row, passed_on, put_unsought, put_laid}
+use Rattle.rows.proofs.OnRows.{writes_row, put_unsought, put_laid}
 use Rattle.rows.proofs.rows.put.Goals as goal
 
 pub lay-requires : goal.lay-requires
@@ -16,7 +17,7 @@ returns-in_err-seek-clause-rule g c =
     let is = writes_row g.Q.Quote.writes g.Q.Row.AsSlice.items c.args.value c.row_of.result c.in_ok-row.row c.ranges.value c.row_of.ensures c.in_ok-row.ensures.ok_part in
     let size = (g.met.Q.Quote.back c.args.value row is).1 in
     let some : 0 < length row = omega (arith, g.met.Q.Quote.wide.0) in
-    rw (passed_on c.from_residual-in_err-seek.result _ c.from_residual-in_err-seek.ensures.1, sym c.start.ensures.place)
+    rw (residual c.from_residual-in_err-seek.result _ c.from_residual-in_err-seek.ensures.1, sym c.start.ensures.place)
     (put_unsought (g.Q.Quote.writes c.args.value) row c.start.result (g.S.RawStream.view c.args.s.now) (g.S.RawStream.view c.seek.new.self) c.in_err-seek.field-0.0 is some c.start.ensures.small c.in_err-seek.ensures.rule)
 
 pub returns-clause-rule : goal.returns-clause-rule
