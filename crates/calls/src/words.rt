@@ -1,4 +1,4 @@
-// The words of a refusal.
+// The words of a refusal, by hand: the library stands on std alone.
 use crate::refusal::{Call, Refusal};
 use std::error::Error;
 use std::fmt;

@@ -1,4 +1,4 @@
-// Why a command was refused, and why a run left the file as it was.
+// Why a command was refused, and why a run left the file as it was. Written by hand, since a derived `From` would have no contract.
 ghost use Rattle.std.specs.Prelude.{◌≡◌};
 ghost use Rattle.curves.specs.declared.error.RunError.TheVariants.{Io};
 

@@ -35,7 +35,8 @@ impl<'a> ScriptedStream<'a> {
     }
 }
 
-// A call that promises more than the trait has to repeat the trait's clauses.
+// A call that promises more than the trait has to repeat the trait's clauses. What it uses of the script relates the stream before and
+// after it, so that no type can hold it.
 impl<'a> RawStream for ScriptedStream<'a> {
     ghost view = { scripted };
 
