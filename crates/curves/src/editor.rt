@@ -14,7 +14,7 @@ pub struct Editor<'a, Q, S> {
     rt: &'a HostRuntime,
     stream: S,
     tenors: &'a [String],
-    // what came of the commands so far
+    // what came of the commands so far, as `run` answers it
     outcome: Result<(), RunError>,
     kind: PhantomData<Q>,
 }

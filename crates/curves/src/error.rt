@@ -1,6 +1,7 @@
 // Why a command was refused, and why a run left the file as it was. Written by hand, since a derived `From` would have no contract.
 ghost use Rattle.std.specs.Prelude.{◌≡◌};
-ghost use Rattle.curves.specs.declared.error.RunError.TheVariants.{Io};
+ghost use Rattle.curves.specs.declared.error.CommandError.TheVariants as command;
+ghost use Rattle.curves.specs.declared.error.RunError.TheVariants as run;
 
 use rows::refusal::RowRefusal;
 use std::error::Error;
@@ -37,6 +38,8 @@ impl fmt::Display for CommandError<'_> {
 impl Error for CommandError<'_> {}
 
 impl From<io::Error> for CommandError<'_> {
+    ghost from_gives = { λ e x. x ≡ command.Io e };
+
     fn from(e: io::Error) -> Self {
         CommandError::Io(e)
     }
@@ -62,7 +65,7 @@ impl fmt::Display for RunError {
 impl Error for RunError {}
 
 impl From<io::Error> for RunError {
-    ghost from_gives = { λ e x. x ≡ Io e };
+    ghost from_gives = { λ e x. x ≡ run.Io e };
 
     fn from(e: io::Error) -> RunError {
         RunError::Io(e)

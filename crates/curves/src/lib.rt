@@ -72,9 +72,10 @@ fn replace(rt: &HostRuntime, path: &str, bytes: &[u8], size: usize) -> io::Resul
 // Runs the commands of a text on a file, and answers how many rows were changed: the file is replaced where there are any.
 pub fn run(rt: &HostRuntime, settings: &Settings, text: &str) -> Result<u32, RunError> {
     let size = buffer_size(settings.buffer).or_else(|e| left(rt, format_args!("refused {e}")))?;
-    let Ok(header) = u16::try_from(settings.header) else {
-        return left(rt, "the header's length is not from 0 to 65535");
-    };
+    let header = u16::try_from(settings.header).or_else(|_| left(
+        rt,
+        "the header's length is not from 0 to 65535",
+    ))?;
     let path = settings.path.as_str();
     let mut old = fs::read(rt, path)?;
     let mut new = old.clone().map_err(io::Error::from)?;

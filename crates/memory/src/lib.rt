@@ -49,7 +49,7 @@ impl<'a> MemoryStream<'a> {
     {
         match origin {
             Whence::Start => 0,
-            Whence::Current => self.pos as u64,
+            Whence::Current => self.position(),
             Whence::End => self.len as u64,
         }
     }
@@ -146,9 +146,10 @@ impl<'a> RawStream for MemoryStream<'a> {
         ensures answer { result ≡ seek_answer (memory self.old) target (whence_for whence) }
     {
         let start = self.start_of(Whence::try_from(whence)?);
-        let Some(v) = goal_of(target, start, self.limit()) else {
-            return Err(Refusal::OutOfRange(Origin::own(Call::Seek, self.position())));
-        };
+        let v = goal_of(target, start, self.limit()).ok_or(Refusal::OutOfRange(Origin::own(
+            Call::Seek,
+            self.position(),
+        )))?;
         self.pos = v as usize;
         Ok(v)
     }
@@ -169,9 +170,9 @@ impl<'a> RawStream for MemoryStream<'a> {
         ensures rule { Truncate (memory self.old) (memory self.new) (size_of (memory self.old).position size) result }
         ensures answer { result ≡ cut_answer (memory self.old) size }
     {
-        let Some(v) = size_of_cut(size, self.position(), self.limit()) else {
-            return Err(Refusal::OutOfRange(Origin::own(Call::Truncate, self.position())));
-        };
+        let v = size_of_cut(size, self.position(), self.limit()).ok_or(Refusal::OutOfRange(
+            Origin::own(Call::Truncate, self.position()),
+        ))?;
         let n = v as usize;
         self.clear(self.len.min(n), n);
         self.len = n;

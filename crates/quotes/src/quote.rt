@@ -7,7 +7,7 @@ use std::convert::AsSlice;
 use std::error::Error;
 use std::fmt;
 
-// The kind has no row for this value, or the row has another width.
+// The kind has no row for this value, or the row has another width. Its words are written by hand: the library stands on std alone.
 #[derive(Clone, Copy, Debug, PartialEq, Eq)]
 pub struct Unwritable;
 

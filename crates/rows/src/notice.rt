@@ -1,4 +1,4 @@
-// What a row's refusal tells.
+// What a row's refusal tells, in words written by hand: the library stands on std alone.
 ghost use Rattle.std.specs.Prelude.{◌≡◌};
 ghost use Rattle.rows.specs.Rows.{row_notice};
 

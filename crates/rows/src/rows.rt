@@ -73,7 +73,7 @@ pub fn get<Q: Quote, S: RawStream>(s: &mut S, i: u32) -> Result<i32, RowRefusal>
     ensures rule { GotRow Q.Quote.reads Q.Quote.WIDTH (i * Q.Quote.WIDTH) (S.RawStream.view s.old) (S.RawStream.view s.new) result }
     ensures said { GetSaid (Call.Seek ∷ (Call.ReadInto ∷ [])) (S.RawStream.view s.new) (S.RawStream.pile s.new) result }
 {
-    // no row is longer, and no heap is used
+    // no row is longer; no heap is used, and an array's length cannot be computed from WIDTH
     let mut row = [0u8; 16];
     get_at::<Q, S>(s, start::<Q>(i), &mut row[..Q::WIDTH])
 }

@@ -7,7 +7,7 @@ use Rattle.script.specs.declared.Entry.{Entry}
 use Rattle.scripted.specs.declared.ScriptedStream.{ScriptedStream}
 use Rattle.script.specs.Script.{entries_left, grants}
 
--- a stream that is steady exactly while each entry left has kind 0 and n above 0
+-- a stream that is steady exactly while each entry left is an AtMost of more than 0
 abbrev pub under : List Entry → Stream → Stream
 under es s = record { shown = s.shown; position = s.position; limit = s.limit; stored = s.stored; held = s.held; steady = grants es }
 

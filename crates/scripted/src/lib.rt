@@ -23,7 +23,7 @@ pub struct ScriptedStream<'a> {
 }
 
 impl<'a> ScriptedStream<'a> {
-    // A memory stream on a slice, with the first `len` of its bytes, and a list of entries.
+    // A memory stream on a slice, with the first `len` of its bytes, as `MemoryStream::new` takes them, and a list of entries.
     pub fn new(bytes: &'a mut [u8], len: usize, entries: &'a [Entry]) -> ScriptedStream<'a>
         ensures made { memory result.memory ≡ file bytes.old (min len (room bytes.old)) 0 }
         ensures entries { entries_left result.script ≡ entries.now }
@@ -36,7 +36,7 @@ impl<'a> ScriptedStream<'a> {
 }
 
 // A call that promises more than the trait has to repeat the trait's clauses. What it uses of the script relates the stream before and
-// after it, so that no type can hold it.
+// after it, so that no type can hold it; and a method that takes an entry for all six would have to promise that the memory stays.
 impl<'a> RawStream for ScriptedStream<'a> {
     ghost view = { scripted };
 

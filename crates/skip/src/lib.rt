@@ -131,9 +131,10 @@ impl<S: RawStream> RawStream for HeaderSkip<S> {
         ensures says { Says Call.Seek self.old.pos (skipping_pile self.new).places result }
     {
         let start = self.start_of(Whence::try_from(whence)?)?;
-        let Some(v) = goal_of(target, start, self.limit()) else {
-            return Err(Refusal::OutOfRange(Origin::own(Call::Seek, self.pos)));
-        };
+        let v = goal_of(target, start, self.limit()).ok_or(Refusal::OutOfRange(Origin::own(
+            Call::Seek,
+            self.pos,
+        )))?;
         self.pos = v;
         Ok(v)
     }
@@ -152,9 +153,10 @@ impl<S: RawStream> RawStream for HeaderSkip<S> {
         ensures outside { within (skipping self.old).limit (size_of self.old.pos size) ≡ None → (result ≡ Err (Refusal.OutOfRange (own Call.Truncate self.old.pos))) × (self.new ≡ self.old) }
         ensures says { Says Call.Truncate self.old.pos (skipping_pile self.new).places result }
     {
-        let Some(v) = size_of_cut(size, self.pos, self.limit()) else {
-            return Err(Refusal::OutOfRange(Origin::own(Call::Truncate, self.pos)));
-        };
+        let v = size_of_cut(size, self.pos, self.limit()).ok_or(Refusal::OutOfRange(Origin::own(
+            Call::Truncate,
+            self.pos,
+        )))?;
         let place = self.head as u64 + v;
         self.raw
             .truncate(Some(place as i64))
