@@ -1,35 +1,72 @@
 -- The memory stream's rules, over the bytes of its slice.
-use Rattle.std.proofs.Common.{◌≡◌, ℕ, ◌+◌, ◌-◌, ◌<◌, ◌≤◌, min, max, List, ◌++◌, length, take, drop, replicate, ℤ, pos, sym, refl, ap, ◌∙◌, inl, inr, arith, length-take, rules}
+use Rattle.std.proofs.Common.{◌≡◌, ℕ, ◌+◌, ◌-◌, ◌<◌, ◌≤◌, min, max, Bool, true, false, cond, List, ◌++◌, length, take, drop, replicate, ℤ, pos, Ok, Err, Result, sym, refl, ap, ◌∙◌, inl, inr, arith, length-take, rules}
+use borrow.Rule.Slice.PartMut.{put_mid}
 use Rattle.std.proofs.lemmas.List.{places, ext_get_or, take_all}
-use Rattle.stream.specs.Stream.{Read, Wrote, Cut, laid, resized}
+use Rattle.calls.specs.declared.refusal.Call.TheVariants as call
+use Rattle.calls.specs.declared.refusal.Refusal.{Refusal}
+use Rattle.calls.specs.declared.refusal.Refusal.TheVariants.{PastLimit}
+use Rattle.calls.specs.Refusal.{own}
+use Rattle.stream.specs.Stream.{Stream, Pile, Leaves, Read, Wrote, Cut, Whole, left, laid, resized}
+use Rattle.stream.specs.Answers.{all_read, all_written}
 use Rattle.stream.proofs.Bytes.{get_or-laid, size_laid}
-use Rattle.stream.proofs.Streams.{test_at}
-use Rattle.memory.specs.Room.{file, InRoom, room}
+use Rattle.stream.proofs.Streams.{kept_refl, piled_refl, test_at}
+use Rattle.memory.specs.Room.{file, ground, InRoom, room}
 
 -- ── reading ──
 
-pub read_file : (bytes buf out : List ℕ) (len place n : ℕ) → InRoom bytes len place → n ≡ min (length buf) (len - place) → out ≡ take n (drop place bytes) →
+-- some of what is left, and none only where there is none to read
+pub read_part : (bytes buf out : List ℕ) (len place n : ℕ) → InRoom bytes len place → n ≤ length buf → n ≤ len - place → (n ≡ 0 → min (length buf) (len - place) ≡ 0) → out ≡ take n (drop place bytes) →
     Read (file bytes len place) (file bytes len (place + n)) buf (out ++ drop n buf) n
-read_file bytes buf out len place n ok is got =
+read_part bytes buf out len place n ok fits left some got =
     let l : length (take len bytes) ≡ len = simp length-take (omega (arith, ok.len_fits)) in
     let same : take n (drop place bytes) ≡ take n (drop place (take len bytes)) = ext_get_or 0 _ _ (search (rules, places)) (λ p h. grind (arith, places)) in
-    record { kept = record { limit_same = refl; steady_on = λ u. u; held_from = λ p b h. inl h }; count_buf = omega arith; count_left = omega arith; some = λ z. omega arith; filled = ap (λ (o : List ℕ). o ++ drop n buf) (got ∙ same); shown_same = refl; moved = refl }
+    record { kept = record { limit_same = refl; steady_on = λ u. u; held_from = λ p b h. inl h }; count_buf = fits; count_left = omega arith; some = λ z. let m = some z in omega arith; filled = ap (λ (o : List ℕ). o ++ drop n buf) (got ∙ same); shown_same = refl; moved = refl }
+
+pub read_file : (bytes buf out : List ℕ) (len place n : ℕ) → InRoom bytes len place → n ≡ min (length buf) (len - place) → out ≡ take n (drop place bytes) →
+    Read (file bytes len place) (file bytes len (place + n)) buf (out ++ drop n buf) n
+read_file bytes buf out len place n ok is got = read_part bytes buf out len place n ok (omega arith) (omega arith) (λ z. omega arith) got
+
+-- a read that finds nothing
+pub read_none : (bytes buf : List ℕ) (len place n : ℕ) → InRoom bytes len place → n ≡ min (length buf) (len - place) → n ≡ 0 →
+    Leaves {X = ℕ} call.ReadInto (file bytes len place) (ground bytes len) (ground bytes len) (Ok 0) × Read (file bytes len place) (file bytes len place) buf buf 0 × (Ok 0 ≡ all_read (file bytes len place) (length buf))
+read_none bytes buf len place n ok is none =
+    let l : length (take len bytes) ≡ len = simp length-take (omega (arith, ok.len_fits)) in
+    let z : min (length buf) (length (take len bytes) - place) ≡ 0 = omega arith in
+    (record { piled = piled_refl _; source = tt }, record { kept = kept_refl (file bytes len place); count_buf = omega arith; count_left = omega arith; some = λ _. z; filled = refl; shown_same = refl; moved = omega arith }, ap Ok (sym z))
+
+-- all that is left is read
+pub whole_read : (p : Pile) (s : Stream) (k : ℕ) (r : Result ℕ Refusal) → r ≡ all_read s k → Whole p s (min k (left s)) r
+whole_read p s k r e = rw e (λ u v. refl)
 
 -- ── writing ──
 
+-- all is written
+whole_cond : (p : Pile) (s : Stream) (k : ℕ) (e : Refusal) (b : Bool) → Whole p s k (cond b (Ok k) (Err e))
+whole_cond p s k e true = λ u v. refl
+whole_cond p s k e false = tt
+
+pub whole_write : (p : Pile) (s : Stream) (k : ℕ) (r : Result ℕ Refusal) → r ≡ all_written s k → Whole p s k r
+whole_write p s k r e = rw e (whole_cond p s k (PastLimit (own call.Write s.position)) _)
+
 -- the bytes after zeros are laid from one place to another
-abbrev cleared : List ℕ → ℕ → ℕ → List ℕ
+abbrev pub cleared : List ℕ → ℕ → ℕ → List ℕ
 cleared bytes from to = take from bytes ++ (replicate (to - from) 0 ++ drop to bytes)
 
 -- the bytes after some are laid at a place
-abbrev pasted : List ℕ → ℕ → List ℕ → List ℕ
+abbrev pub pasted : List ℕ → ℕ → List ℕ → List ℕ
 pasted bytes at buf = take at bytes ++ (buf ++ drop (at + length buf) bytes)
 
-length-cleared : (bytes : List ℕ) (from to : ℕ) → from ≤ to → to ≤ length bytes → length (cleared bytes from to) ≡ length bytes
+pub length-cleared : (bytes : List ℕ) (from to : ℕ) → from ≤ to → to ≤ length bytes → length (cleared bytes from to) ≡ length bytes
 length-cleared bytes from to h l = search (rules, places)
 
 length-pasted : (bytes : List ℕ) (at : ℕ) (buf : List ℕ) → at + length buf ≤ length bytes → length (pasted bytes at buf) ≡ length bytes
 length-pasted bytes at buf h = search (rules, places)
+
+pub put_cleared : (bytes last : List ℕ) (from to : ℕ) → from ≤ to → to ≤ length bytes → last ≡ replicate (length (take (to - from) (drop from bytes))) 0 → put_mid from (to - from) bytes last ≡ cleared bytes from to
+put_cleared bytes last from to h l e = rw e (ext_get_or 0 _ _ (search (rules, places)) (λ p q. grind (arith, places)))
+
+pub put_pasted : (bytes last buf : List ℕ) (at : ℕ) → at + length buf ≤ length bytes → last ≡ buf → put_mid at ((at + length buf) - at) bytes last ≡ pasted bytes at buf
+put_pasted bytes last buf at h e = rw e (ext_get_or 0 _ _ (search (rules, places)) (λ p q. grind (arith, places)))
 
 laid_in_file : (bytes buf : List ℕ) (len place : ℕ) → len ≤ length bytes → place + length buf ≤ length bytes → 0 < length buf →
     take (max len (place + length buf)) (pasted (cleared bytes (min len place) place) place buf) ≡ laid (take len bytes) place buf

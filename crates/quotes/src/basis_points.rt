@@ -25,8 +25,10 @@ impl Quote for BasisPoints {
     type Row = [u8; 2];
 
     fn decode(row: &[u8]) -> Option<i32> {
-        let bytes = <[u8; 2]>::try_from(row).ok()?;
-        Some(i16::from_le_bytes(bytes).into())
+        match row {
+            [lo, hi] => Some(i16::from_le_bytes([*lo, *hi]).into()),
+            _ => None,
+        }
     }
 
     fn row_of(value: i32) -> Option<[u8; 2]> {

@@ -79,6 +79,7 @@ pub fn get<Q: Quote, S: RawStream>(s: &mut S, i: u32) -> Result<i32, RowRefusal>
 }
 
 // Puts a quote into row i: 15 where its kind cannot write the value, ahead of all else.
+#[inline]
 pub fn put<Q: Quote, S: RawStream>(s: &mut S, i: u32, value: i32) -> Result<(), PutRefusal>
     ensures rule { PutRow (Q.Quote.writes value) (i * Q.Quote.WIDTH) (S.RawStream.view s.old) (S.RawStream.view s.new) result }
     ensures said { PutSaid (Call.Seek ∷ (Call.Write ∷ [])) (S.RawStream.view s.new) (S.RawStream.pile s.new) result }
@@ -89,6 +90,7 @@ pub fn put<Q: Quote, S: RawStream>(s: &mut S, i: u32, value: i32) -> Result<(), 
 }
 
 // Puts a quote into row i, flushes, and gets it back: where granted it is the value that was put.
+#[inline]
 pub fn patch<Q: Quote, S: RawStream>(s: &mut S, i: u32, value: i32) -> Result<i32, PutRefusal>
     ensures rule { PatchRow value (Q.Quote.writes value) (i * Q.Quote.WIDTH) (S.RawStream.view s.old) (S.RawStream.view s.new) result }
     ensures said { PutSaid (Call.Seek ∷ (Call.Write ∷ (Call.Flush ∷ (Call.ReadInto ∷ [])))) (S.RawStream.view s.new) (S.RawStream.pile s.new) result }

@@ -107,6 +107,7 @@ impl<S: RawStream> RawStream for HeaderSkip<S> {
         Ok(got)
     }
 
+    #[inline]
     fn write(&mut self, buf: &[u8]) -> Result<usize, Refusal>
         ensures leaves { Leaves Call.Write (skipping self.new) (skipping_pile self.old) (skipping_pile self.new) result }
         ensures rule { Write (skipping self.old) (skipping self.new) buf.now result }

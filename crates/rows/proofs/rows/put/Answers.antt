@@ -1,13 +1,14 @@
-use Rattle.std.proofs.Common.{ℕ, ◌<◌, length, Some, ap, sym, ◌∙◌, subst, arith}
+use Rattle.std.proofs.Common.{ℕ, ◌<◌, length, Some, option_map, ap, sym, ◌∙◌, subst, arith}
 use Rattle.stream.proofs.Refusals.{residual}
 use Rattle.rows.specs.Rows.{PutRow}
 use Rattle.rows.proofs.OnRows.{writes_row, put_unsought, put_laid}
 use Rattle.rows.proofs.rows.put.Goals as goal
 
+-- whatever value the row is of
 pub lay-requires : goal.lay-requires
 lay-requires g c =
-    let is = writes_row g.Q.Quote.writes g.Q.Row.AsSlice.items c.args.value c.row_of.result c.in_ok-row.row c.ranges.value c.row_of.ensures c.in_ok-row.ensures.ok_part in
-    let size = (g.met.Q.Quote.back c.args.value (g.Q.Row.AsSlice.items c.in_ok-row.row) is).1 in
+    let is = sym c.row_of.ensures ∙ ap (option_map g.Q.Row.AsSlice.items) c.in_ok-row.ensures.ok_part in
+    let size = (g.met.Q.Quote.back _ (g.Q.Row.AsSlice.items c.in_ok-row.row) is).1 in
     let same = ap length c.as_slice.ensures in
     omega (arith, g.met.Q.Quote.wide.0)
 
