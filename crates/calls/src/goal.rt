@@ -26,9 +26,13 @@ impl TryFrom<i32> for Whence {
 pub fn goal_of(target: i64, start: u64, limit: u64) -> Option<u64>
     ensures { result ≡ within limit (target +ℤ pos start) }
 {
-    start
-        .checked_add_signed(target)
-        .filter(|goal| *goal <= limit)
+    // 128 bits hold every sum
+    let goal = target as i128 + start as i128;
+    if (0..=limit as i128).contains(&goal) {
+        Some(goal as u64)
+    } else {
+        None
+    }
 }
 
 // The size that a truncate asks for, where it lies from 0 to the limit.
